@@ -1,0 +1,233 @@
+-- Reading a book: form with its places, the decoder, and the verdict on any bytes, numbers 1 to 7
+-- (document 01, "The policy book" and "Numbers that turn a call away").
+use Prim.Native.Nat.{ℕ, zero, suc, _+_, _*_}
+use mathlib.Core.Bool.{Bool, true, false, not, cond, _&&_, _||_}
+use mathlib.Core.List.{List, [], _∷_, _++_}
+use mathlib.Core.Option.{Option, none, some}
+use lib.Dec.{ltb, leb, eqb}
+use lib.ListN.{length, getD, take}
+use Rattle.rules.specs.declared.Reading.{Reading}
+use Rattle.rules.specs.declared.Reading.the-variants.{Next, Wrong}
+use Rattle.rules.specs.declared.Refusal.{Refusal}
+use Rattle.rules.specs.declared.Refusal.the-variants.{BookLength, Counts, Lengths, EntryMasks, Form, Limits, Typing}
+use Rattle.rules.specs.declared.Sizes.{Sizes}
+use Rattle.rules.specs.declared.Verdict.{Verdict}
+use Rattle.rules.specs.declared.Verdict.the-variants.{Accepted, Refused}
+use Rattle.rules.specs.Masks.{inFields}
+use Rattle.rules.specs.Codes.{operandsOf, partsOf}
+use Rattle.rules.specs.Parts.{Part, Id, Drop, Test, Set, Not, Sum, Seq, Beside, parts, deep}
+use Rattle.rules.specs.Typing.{fits, wrongs}
+use Rattle.rules.specs.Books.{mostFields, mostTables, mostBytes, mostDepth, mostParts, mostBeside, Entry, Policy, entries, bytesOf, firstBody, useOf, noUse, masksFit, Scope, scopeOf}
+
+-- ---- the form of a body (5): "each read left to right, the first byte that cannot stand there"
+
+-- go on from the next place, or hand the refusal up
+abbrev pub andThen : Reading → (ℕ → Reading) → Reading
+andThen (Next a) f = f a
+andThen (Wrong a) f = Wrong a
+
+-- the byte at a place; "if a body ends early, the place just after it"
+unfoldable pub byteIf : List ℕ → (ℕ → Bool) → ℕ → Reading
+byteIf s ok at = cond (ltb at (length s)) (cond (ok (getD s at 0)) (Next (at + 1)) (Wrong at)) (Wrong (length s))
+
+-- may a part with this code stand there, by code 0 to 8: whether tables may, whether only a predicate may
+abbrev pub standing : Bool → Bool → List Bool
+standing main pred = true ∷ true ∷ true ∷ not pred ∷ true ∷ true ∷ true ∷ not pred ∷ (not pred && main) ∷ []
+
+unfoldable pub stands : Bool → Bool → ℕ → Bool
+stands main pred code = getD (standing main pred) code false
+
+-- may byte b be operand i, by code 0 to 8: "a field of k or more, a mask with a bit at k or above, and a table number
+-- outside 1 to m cannot stand"
+abbrev pub anyByte : ℕ → ℕ → Bool
+anyByte i b = true
+
+abbrev pub fieldFirst : ℕ → ℕ → ℕ → Bool
+fieldFirst k zero b = ltb b k
+fieldFirst k (suc i) b = true
+
+abbrev pub maskBelow : ℕ → ℕ → ℕ → Bool
+maskBelow k i b = inFields k b
+
+abbrev pub tableUpTo : ℕ → ℕ → ℕ → Bool
+tableUpTo m i b = ltb 0 b && leb b m
+
+abbrev pub operandTests : ℕ → ℕ → List (ℕ → ℕ → Bool)
+operandTests k m =
+    anyByte ∷ anyByte ∷ fieldFirst k ∷ fieldFirst k ∷ anyByte ∷ anyByte ∷ anyByte ∷ maskBelow k ∷ tableUpTo m ∷ []
+
+unfoldable pub operandFits : ℕ → ℕ → ℕ → ℕ → ℕ → Bool
+operandFits k m code = getD (operandTests k m) code anyByte
+
+-- n operand bytes, from number i on
+unfoldable pub readOperands : List ℕ → (ℕ → ℕ → Bool) → ℕ → ℕ → ℕ → Reading
+readOperands s ok zero i at = Next at
+readOperands s ok (suc n) i at = andThen (byteIf s (ok i) at) (readOperands s ok n (suc i))
+
+-- n parts one after the other
+abbrev pub readTimes : ℕ → (ℕ → Reading) → ℕ → Reading
+readTimes zero f at = Next at
+readTimes (suc n) f at = andThen (f at) (readTimes n f)
+
+-- one part and what stands below it, at most d deep: "for depth 33 or a wrong kind of part, its code byte"
+unfoldable pub readPart : List ℕ → Scope → ℕ → Bool → ℕ → Reading
+readPart s c zero pred at = andThen (byteIf s (stands (c .main) pred) at) (λ a. Wrong at)
+readPart s c (suc d) pred at =
+    andThen (byteIf s (stands (c .main) pred) at) λ a.
+    andThen (readOperands s (operandFits (c .fields) (c .tables) (getD s at 0)) (operandsOf (getD s at 0)) 0 a)
+    (readTimes (partsOf (getD s at 0)) (readPart s c d (eqb (getD s at 0) 4 || pred)))
+
+-- "A body is exactly one policy": it ends where s ends
+unfoldable pub readBody : List ℕ → Scope → ℕ → Reading
+readBody s c start = andThen (readPart s c mostDepth false start) (λ a. cond (eqb a (length s)) (Next a) (Wrong a))
+
+-- ---- the contents
+
+-- "Two-byte numbers have the high byte first"
+abbrev pub numberAt : List ℕ → ℕ → ℕ
+numberAt s at = getD s at 0 * 256 + getD s (at + 1) 0
+
+abbrev pub fieldsOf : List ℕ → ℕ
+fieldsOf s = getD s 0 0
+
+abbrev pub tablesOf : List ℕ → ℕ
+tablesOf s = getD s 1 0
+
+-- body length, R and W of entry x
+abbrev pub lengthAt : List ℕ → ℕ → ℕ
+lengthAt s x = numberAt s (2 + 4 * x)
+
+abbrev pub readsAt : List ℕ → ℕ → ℕ
+readsAt s x = getD s (4 + 4 * x) 0
+
+abbrev pub writesAt : List ℕ → ℕ → ℕ
+writesAt s x = getD s (5 + 4 * x) 0
+
+-- where the body of entry x starts, by the stated lengths
+unfoldable pub bodyStart : List ℕ → ℕ → ℕ
+bodyStart s zero = firstBody (tablesOf s)
+bodyStart s (suc x) = bodyStart s x + lengthAt s x
+
+-- the bodies of the n entries from x on, in order; "A table with length 0 is not yet populated; a main policy of length 0 is a 5"
+unfoldable pub readEntry : List ℕ → ℕ → Reading
+readEntry s zero = readBody (take (bodyStart s 1) s) (scopeOf (fieldsOf s) (tablesOf s) true) (bodyStart s 0)
+readEntry s (suc x) =
+    cond (eqb (lengthAt s (suc x)) 0) (Next (bodyStart s (suc x)))
+    (readBody (take (bodyStart s (suc (suc x))) s) (scopeOf (fieldsOf s) (tablesOf s) false) (bodyStart s (suc x)))
+
+unfoldable pub readEntries : List ℕ → ℕ → ℕ → Reading
+readEntries s zero x = Next (length s)
+readEntries s (suc n) x = andThen (readEntry s x) (λ a. readEntries s n (suc x))
+
+-- every entry's masks, populated or not (4)
+unfoldable pub masksRight : List ℕ → ℕ → ℕ → Bool
+masksRight s zero x = true
+masksRight s (suc n) x = masksFit (fieldsOf s) (readsAt s x) (writesAt s x) && masksRight s n (suc x)
+
+-- ---- the decoder: what the bytes say, whether they are well formed or not
+
+-- where the parts below the part at a place begin
+abbrev pub below : List ℕ → ℕ → ℕ
+below s at = at + 1 + operandsOf (getD s at 0)
+
+abbrev pub skip : ℕ → (ℕ → ℕ) → ℕ → ℕ
+skip zero f at = at
+skip (suc n) f at = skip n f (f at)
+
+-- the place after the part at a place, at most d deep; past the end and below the depth stands nothing
+unfoldable pub after : List ℕ → ℕ → ℕ → ℕ
+after s zero at = at
+after s (suc d) at = cond (ltb at (length s)) (skip (partsOf (getD s at 0)) (after s d) (below s at)) at
+
+-- the part with a code and the operands at a place, over the parts l and r; an unknown code is id
+unfoldable pub built : List ℕ → (ℕ → Part) → ℕ → ℕ → Part → Part → Part
+built s named at code l r =
+    getD
+    (Id ∷ Drop ∷ Test (getD s (at + 1) 0) (numberAt s (at + 2)) ∷ Set (getD s (at + 1) 0) (numberAt s (at + 2))
+    ∷ Not l ∷ Sum l r ∷ Seq l r ∷ Beside (getD s (at + 1) 0) (getD s (at + 2) 0) l r ∷ named (getD s (at + 1) 0) ∷ []) code Id
+
+-- the part at a place, at most d deep, where a use of table x stands for `named x`
+unfoldable pub partAt : List ℕ → (ℕ → Part) → ℕ → ℕ → Part
+partAt s named zero at = Id
+partAt s named (suc d) at =
+    let l = partAt s named d (below s at) in
+    let r = partAt s named d (after s d (below s at)) in
+    built s named at (getD s at 0) l r
+
+-- the body of table x, and what a use of it stands for
+unfoldable pub bodyAt : List ℕ → ℕ → Option Part
+bodyAt s x = cond (eqb (lengthAt s x) 0) none (some (partAt s noUse mostDepth (bodyStart s x)))
+
+unfoldable pub useAt : List ℕ → ℕ → Part
+useAt s x = useOf x (readsAt s x) (writesAt s x) (bodyStart s x) (bodyAt s x)
+
+-- the main policy, with the bodies of the tables that it uses
+unfoldable pub mainOf : List ℕ → Part
+mainOf s = partAt s (useAt s) mostDepth (bodyStart s 0)
+
+unfoldable pub tablesFrom : List ℕ → ℕ → ℕ → List Entry
+tablesFrom s zero x = []
+tablesFrom s (suc n) x = record { reads = readsAt s x; writes = writesAt s x; body = bodyAt s x } ∷ tablesFrom s n (suc x)
+
+unfoldable pub policyOf : List ℕ → Policy
+policyOf s = record {
+  fields = fieldsOf s;
+  reads = readsAt s 0;
+  writes = writesAt s 0;
+  main = mainOf s;
+  tables = tablesFrom s (tablesOf s) 1;
+}
+
+-- ---- typing (7): "the code byte of the first concurrent part in book order that is not right; if none, the first byte of the
+-- first populated body that does not fit"
+
+unfoldable pub wrongBody : ℕ → Option Part → List ℕ
+wrongBody at none = []
+wrongBody at (some p) = wrongs at p
+
+unfoldable pub misfit : ℕ → Entry → Option Part → List ℕ
+misfit at e none = []
+misfit at e (some p) = cond (fits (e .reads) (e .writes) p) [] (at ∷ [])
+
+-- of these bodies, of which the first starts at a place
+unfoldable pub wrongsIn : ℕ → List Entry → List ℕ
+wrongsIn at [] = []
+wrongsIn at (e ∷ es) = wrongBody at (e .body) ++ wrongsIn (at + length (bytesOf (e .body))) es
+
+unfoldable pub misfitsIn : ℕ → List Entry → List ℕ
+misfitsIn at [] = []
+misfitsIn at (e ∷ es) = misfit at e (e .body) ++ misfitsIn (at + length (bytesOf (e .body))) es
+
+unfoldable pub typingFaults : Policy → List ℕ
+typingFaults P =
+    wrongsIn (firstBody (length (P .tables))) (entries P) ++ misfitsIn (firstBody (length (P .tables))) (entries P)
+
+-- ---- the verdict: the numbers 1 to 7 in their order
+
+-- the refusal, unless the test holds
+abbrev pub unless : Bool → Refusal → Verdict → Verdict
+unless true r v = v
+unless false r v = Refused r
+
+-- the refusal at the place where the reading stopped, if it did
+abbrev pub unlessWrong : Reading → Verdict → Verdict
+unlessWrong (Next a) v = v
+unlessWrong (Wrong a) v = Refused (Form a)
+
+-- the refusal at the first of the faults, if there is one
+abbrev pub unlessFault : List ℕ → Verdict → Verdict
+unlessFault [] v = v
+unlessFault (at ∷ l) v = Refused (Typing at)
+
+unfoldable pub sizesOf : List ℕ → Sizes
+sizesOf s = record { fields = fieldsOf s; tables = tablesOf s; parts = parts (mainOf s); deep = deep (mainOf s) }
+
+unfoldable pub verdict : List ℕ → Verdict
+verdict s =
+    unless (leb 2 (length s) && leb (length s) mostBytes) BookLength
+    (unless (leb 1 (fieldsOf s) && (leb (fieldsOf s) mostFields && leb (tablesOf s) mostTables)) Counts
+    (unless (eqb (bodyStart s (suc (tablesOf s))) (length s)) Lengths
+    (unless (masksRight s (suc (tablesOf s)) 0) EntryMasks
+    (unlessWrong (readEntries s (suc (tablesOf s)) 0)
+    (unless (leb (parts (mainOf s)) mostParts && leb (deep (mainOf s)) mostBeside) Limits
+    (unlessFault (typingFaults (policyOf s)) (Accepted (sizesOf s))))))))

@@ -1,0 +1,111 @@
+// The types that every layer's answers are made of, the limits, and the one table of codes of document 01.
+// What the words mean stands under specs/, and what is shown of it under proofs/.
+ghost use mathlib.Core.Path.{_≡_};
+ghost use Rattle.rules.specs.Codes.{shapeAt};
+
+// How one packet lies to another.
+pub enum Order {
+    Less,
+    Same,
+    More,
+}
+
+// Operand bytes of a code, and how many parts stand below it.
+pub struct Shape {
+    pub operands: usize,
+    pub parts: usize,
+}
+
+// Next place, or the place of the first byte that cannot stand there.
+pub enum Reading {
+    Next(usize),
+    Wrong(usize),
+}
+
+// Why a call is turned away, and where: document 01, "Numbers that turn a call away", 1 to 14 in order.
+pub enum Refusal {
+    BookLength,
+    Counts,
+    Lengths,
+    EntryMasks,
+    Form(usize),
+    Limits,
+    Typing(usize),
+    PacketLength,
+    Unpopulated,
+    TooWide,
+    Positions,
+    BufferLength,
+    Stuck(usize),
+    Input,
+}
+
+// What an accepted book says of itself: k, m, n and D.
+pub struct Sizes {
+    pub fields: usize,
+    pub tables: usize,
+    pub parts: usize,
+    pub deep: usize,
+}
+
+pub enum Verdict {
+    Accepted(Sizes),
+    Refused(Refusal),
+}
+
+// What the evaluator answers beside the packets: their count, N, n, D and the room.
+pub struct Outcome {
+    pub count: usize,
+    pub steps: u64,
+    pub parts: usize,
+    pub deep: usize,
+    pub room: u64,
+}
+
+pub enum Evaluated {
+    Given(Outcome),
+    NotGiven(Refusal),
+}
+
+// A finished run: steps made and packets; an unfinished one: steps made, live and ready positions.
+pub struct Finish {
+    pub steps: usize,
+    pub count: usize,
+}
+
+pub struct Progress {
+    pub steps: usize,
+    pub live: usize,
+    pub ready: usize,
+}
+
+pub enum Ran {
+    Finished(Finish),
+    Running(Progress),
+    NotRun(Refusal),
+}
+
+// The nine codes: id, drop, test, set, not, sum, sequence, beside, table.
+const SHAPES: [Shape; 9] = [
+    Shape { operands: 0, parts: 0 },
+    Shape { operands: 0, parts: 0 },
+    Shape { operands: 3, parts: 0 },
+    Shape { operands: 3, parts: 0 },
+    Shape { operands: 0, parts: 1 },
+    Shape { operands: 0, parts: 2 },
+    Shape { operands: 0, parts: 2 },
+    Shape { operands: 2, parts: 2 },
+    Shape { operands: 1, parts: 0 },
+];
+
+// A code's row of the table; that of id for an unknown code.
+pub fn shape_of(code: u8) -> Shape
+    ensures { λ r. ⌜ r ≡ shapeAt code ⌝ }
+{
+    if code < 9 {
+        let i = code as usize;
+        SHAPES[i]
+    } else {
+        Shape { operands: 0, parts: 0 }
+    }
+}
