@@ -87,15 +87,42 @@ pub enum Ran {
 
 // The nine codes: id, drop, test, set, not, sum, sequence, beside, table.
 const SHAPES: [Shape; 9] = [
-    Shape { operands: 0, parts: 0 },
-    Shape { operands: 0, parts: 0 },
-    Shape { operands: 3, parts: 0 },
-    Shape { operands: 3, parts: 0 },
-    Shape { operands: 0, parts: 1 },
-    Shape { operands: 0, parts: 2 },
-    Shape { operands: 0, parts: 2 },
-    Shape { operands: 2, parts: 2 },
-    Shape { operands: 1, parts: 0 },
+    Shape {
+        operands: 0,
+        parts: 0,
+    },
+    Shape {
+        operands: 0,
+        parts: 0,
+    },
+    Shape {
+        operands: 3,
+        parts: 0,
+    },
+    Shape {
+        operands: 3,
+        parts: 0,
+    },
+    Shape {
+        operands: 0,
+        parts: 1,
+    },
+    Shape {
+        operands: 0,
+        parts: 2,
+    },
+    Shape {
+        operands: 0,
+        parts: 2,
+    },
+    Shape {
+        operands: 2,
+        parts: 2,
+    },
+    Shape {
+        operands: 1,
+        parts: 0,
+    },
 ];
 
 // A code's row of the table; that of id for an unknown code.
@@ -106,6 +133,9 @@ pub fn shape_of(code: u8) -> Shape
         let i = code as usize;
         SHAPES[i]
     } else {
-        Shape { operands: 0, parts: 0 }
+        Shape {
+            operands: 0,
+            parts: 0,
+        }
     }
 }

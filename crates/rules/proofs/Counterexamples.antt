@@ -1,0 +1,94 @@
+-- Each of the five conditions of a right concurrent part is needed: five books that lack one alone, are refused with 7, and whose
+-- concurrent part gives other packets than the sequence (all but one would be stuck besides). And the trap: pairing across packets.
+use Prim.Native.Nat.{ℕ, _+_, _*_}
+use mathlib.Core.Path.{_≡_, refl}
+use mathlib.Core.Bool.{Bool, true, false}
+use mathlib.Core.List.{List, [], _∷_, _++_, map}
+use lib.ListN.{length, replicate}
+use Rattle.rules.specs.Masks.{has, apart, within, less}
+use Rattle.rules.specs.Packets.{Packet, Packets, padded, passes, put, mix, without, orderOf, insert, union, keep, member, pairsInto, pairs}
+use Rattle.rules.specs.Parts.{Part, Id, Drop, Test, Set, Not, Sum, Seq, Beside, Table, Open, write, parts, deep}
+use Rattle.rules.specs.Typing.{tested, written, rightMasks, fitMasks, wrongs}
+use Rattle.rules.specs.Books.{entries, bytesOf, masksFit}
+use Rattle.rules.specs.Reading.{byteIf, stands, operandFits, readOperands, readPart, readBody, bodyStart, readEntry, readEntries, masksRight, after, built, partAt, bodyAt, useAt, mainOf, tablesFrom, policyOf, wrongBody, misfit, wrongsIn, misfitsIn, typingFaults, sizesOf, verdict}
+use Rattle.rules.specs.Working.{each, out}
+use Rattle.rules.specs.States.{Spot, place, enter, finish, leave, next, move, used, lacking, stuckSteps, stuckIn}
+use Rattle.rules.specs.Answers.{Says, refusal, numberOf, placeOf, refusalSays, verdictSays}
+
+-- masks and sides of a concurrent part
+pub record Sides : Type 0 where
+  pub wp : ℕ
+  pub wq : ℕ
+  pub p : Part
+  pub q : Part
+
+unfoldable pub sides : ℕ → ℕ → Part → Part → Sides
+sides wp wq p q = record { wp = wp; wq = wq; p = p; q = q }
+
+abbrev pub beside : Sides → Part
+beside c = Beside (c .wp) (c .wq) (c .p) (c .q)
+
+-- the book with one field, R empty and W that field, whose main policy is this part
+abbrev pub bookOf : Part → List ℕ
+bookOf p = 1 ∷ 0 ∷ 0 ∷ length (write p) ∷ 0 ∷ 1 ∷ write p
+
+-- the five conditions in document 01's order
+unfoldable pub conditions : Sides → List Bool
+conditions c =
+    within (written (c .p)) (c .wp) ∷ within (written (c .q)) (c .wq) ∷ apart (c .wp) (c .wq)
+    ∷ apart (tested (c .p)) (c .wq) ∷ apart (tested (c .q)) (c .wp) ∷ []
+
+-- one packet of one field, with value 5
+abbrev pub five : Packets
+five = (5 ∷ []) ∷ []
+
+-- the conditions, what is said of the book, what the concurrent part and what the sequence gives, and the stuck steps of a run
+abbrev pub Shown : Type 0
+Shown = List Bool × Says × Packets × Packets × List ℕ
+
+unfoldable pub shown : Sides → Shown
+shown c = (
+  conditions c,
+  verdictSays (verdict (bookOf (beside c))),
+  out (beside c) five,
+  out (Seq (c .p) (c .q)) five,
+  stuckIn (place (record { at = 6; fields = 1 }) (beside c) five) (0 ∷ 0 ∷ 0 ∷ []),
+)
+
+unfoldable pub lacking-one : List Sides
+lacking-one =
+    sides 0 1 (Set 0 1) Id
+    ∷ sides 1 0 Id (Set 0 1)
+    ∷ sides 1 1 Id Id
+    ∷ sides 0 1 (Test 0 5) (Set 0 7)
+    ∷ sides 1 0 (Set 0 7) (Test 0 7)
+    ∷ []
+
+pub each-needed : map shown lacking-one
+    ≡ (false ∷ true ∷ true ∷ true ∷ true ∷ [], refusal 7 6, five, (1 ∷ []) ∷ [], 9 ∷ [])
+    ∷ (true ∷ false ∷ true ∷ true ∷ true ∷ [], refusal 7 6, five, (1 ∷ []) ∷ [], 10 ∷ [])
+    ∷ (true ∷ true ∷ false ∷ true ∷ true ∷ [], refusal 7 6, (0 ∷ []) ∷ [], five, [])
+    ∷ (true ∷ true ∷ true ∷ false ∷ true ∷ [], refusal 7 6, [], (7 ∷ []) ∷ [], 9 ∷ [])
+    ∷ (true ∷ true ∷ true ∷ true ∷ false ∷ [], refusal 7 6, [], (7 ∷ []) ∷ [], 13 ∷ [])
+    ∷ []
+unfolding shown lacking-one sides conditions
+    has apart within less padded passes put mix orderOf insert union keep member pairsInto
+    write parts deep tested written rightMasks fitMasks wrongs entries bytesOf masksFit
+    byteIf stands operandFits readOperands readPart readBody bodyStart readEntry readEntries masksRight
+    after built partAt bodyAt useAt mainOf tablesFrom policyOf wrongBody misfit wrongsIn misfitsIn typingFaults sizesOf verdict
+    each out place enter finish leave next move used lacking stuckSteps stuckIn numberOf placeOf refusalSays verdictSays
+each-needed = refl
+
+-- ---- the trap: "Pairing results across different packets, as the four-packet answer above"
+
+-- what a concurrent part would give, did it take all packets together
+unfoldable pub across : ℕ → ℕ → Part → Part → Packets → Packets
+across wp wq p q s = pairs wq (out p (map (without wq) s)) (out q (map (without wp) s))
+
+abbrev pub two : Packets
+two = (0 ∷ 0 ∷ []) ∷ (1 ∷ 1 ∷ []) ∷ []
+
+pub trap : (out (Beside 1 2 Id Id) two ≡ two)
+    × (across 1 2 Id Id two ≡ (0 ∷ 0 ∷ []) ∷ (0 ∷ 1 ∷ []) ∷ (1 ∷ 0 ∷ []) ∷ (1 ∷ 1 ∷ []) ∷ [])
+unfolding across has mix orderOf insert union pairsInto each out
+trap = (refl, refl)
