@@ -3,3 +3,7 @@ pub mod MaskLaws
 pub mod ReadingLaws
 pub mod Trials
 pub mod Counterexamples
+pub mod Measures
+pub mod Bounds
+pub mod Steps
+pub mod Schedules
