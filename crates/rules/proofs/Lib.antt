@@ -7,3 +7,5 @@ pub mod Measures
 pub mod Bounds
 pub mod Steps
 pub mod Schedules
+pub mod Rooms
+pub mod Choose

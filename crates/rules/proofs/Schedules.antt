@@ -4,8 +4,8 @@ use native.Mathlib.Nat.{mod-lt}
 use native.Mathlib.Decide.{decLe}
 use native.Mathlib.Omega.{arith}
 use mathlib.Core.Path.{_≡_, refl, ap, _∙_}
-use mathlib.Core.List.{List, [], _∷_, _++_, map}
-use lib.ListN.{length, getD, length-append, length-map}
+use mathlib.Core.List.{List, [], _∷_}
+use lib.ListN.{length, length-append, length-map}
 use Rattle.rules.specs.Packets.{Packets}
 use Rattle.rules.specs.Parts.{Part}
 use Rattle.rules.specs.Working.{out, steps, width}

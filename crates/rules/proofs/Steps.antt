@@ -88,7 +88,9 @@ module _ (o : Spot) where
   enter-final (Seq p q) s = ap (out q) (place-final (on 1 o) p s)
   enter-final (Beside wp wq p q) [] = refl
   enter-final (Beside wp wq p q) (x ∷ []) =
-      rw (place-final (losing wq (on 3 o)) p (without wq x ∷ []), place-final (losing wp (on (3 + size p) o)) q (without wp x ∷ []))
+      let l = losing wq (on 3 o) in
+      let r = losing wp (on (3 + size p) o) in
+      rw (place-final l p (without wq x ∷ []), place-final r q (without wp x ∷ []))
   enter-final (Beside wp wq p q) (x ∷ (y ∷ s)) = refl
   enter-final (Table x r w start p) s = place-final (moved start o) p s
   enter-final (Open x r w) s = refl
@@ -104,7 +106,9 @@ module _ (o : Spot) where
   enter-rest (Seq p q) s = omega (arith, place-rest (on 1 o) p s, ap (steps q) (place-final (on 1 o) p s))
   enter-rest (Beside wp wq p q) [] = refl
   enter-rest (Beside wp wq p q) (x ∷ []) =
-      omega (arith, place-rest (losing wq (on 3 o)) p (without wq x ∷ []), place-rest (losing wp (on (3 + size p) o)) q (without wp x ∷ []))
+      let l = losing wq (on 3 o) in
+      let r = losing wp (on (3 + size p) o) in
+      omega (arith, place-rest l p (without wq x ∷ []), place-rest r q (without wp x ∷ []))
   enter-rest (Beside wp wq p q) (x ∷ (y ∷ s)) = omega arith
   enter-rest (Table x r w start p) s = omega (arith, place-rest (moved start o) p s)
   enter-rest (Open x r w) s = refl
@@ -120,7 +124,9 @@ module _ (o : Spot) where
   enter-peak (Seq p q) s = omega (arith, place-peak (on 1 o) p s, ap (room q) (place-final (on 1 o) p s))
   enter-peak (Beside wp wq p q) [] = omega arith
   enter-peak (Beside wp wq p q) (x ∷ []) =
-      omega (arith, place-peak (losing wq (on 3 o)) p (without wq x ∷ []), place-peak (losing wp (on (3 + size p) o)) q (without wp x ∷ []))
+      let l = losing wq (on 3 o) in
+      let r = losing wp (on (3 + size p) o) in
+      omega (arith, place-peak l p (without wq x ∷ []), place-peak r q (without wp x ∷ []))
   enter-peak (Beside wp wq p q) (x ∷ (y ∷ s)) = omega arith
   enter-peak (Table x r w start p) s = omega (arith, place-peak (moved start o) p s)
   enter-peak (Open x r w) s = omega arith
