@@ -9,3 +9,5 @@ pub mod Steps
 pub mod Schedules
 pub mod Rooms
 pub mod Choose
+pub mod PacketLaws
+
