@@ -10,4 +10,6 @@ pub mod Schedules
 pub mod Rooms
 pub mod Choose
 pub mod PacketLaws
+pub mod TypingLaws
+pub mod Frame
 
