@@ -12,4 +12,5 @@ pub mod Choose
 pub mod PacketLaws
 pub mod TypingLaws
 pub mod Frame
+pub mod Serial
 
