@@ -9,8 +9,12 @@ pub mod Steps
 pub mod Schedules
 pub mod Rooms
 pub mod Choose
+pub mod Orders
+pub mod Sets
 pub mod PacketLaws
 pub mod TypingLaws
 pub mod Frame
 pub mod Serial
+pub mod Exact
+pub mod Lacked
 
