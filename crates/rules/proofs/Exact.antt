@@ -1,7 +1,6 @@
 -- What the steps lead to is the published meaning: out gives, in ascending order, exactly the packets that Gives says.
 use mathlib.Core.Path.{_≡_, refl, sym, _∙_, subst}
-use mathlib.Core.Logic.{_⊎_, inl, inr, ⊎-elim, _↔_}
-use mathlib.Core.Bool.{true}
+use mathlib.Core.Logic.{inl, inr, ⊎-elim, _↔_}
 use mathlib.Core.List.{[], _∷_, map}
 use Prim.Native.Nat.{ℕ}
 use Rattle.rules.specs.Packets.{Packet, Packets, _∈_, Ascending, passes, put, without, union, lacks, pairs}
@@ -12,7 +11,7 @@ use Rattle.rules.specs.Working.{each, out}
 use Rattle.rules.proofs.Sets.{cast∈, single, union-out, union-in, gathered-out, gathered-in, map-out, map-in, keep-out, keep-in}
 use Rattle.rules.proofs.Sets.{pairs-out, pairs-in, lacks-out, lacks-in, union-ascending, gathered-ascending, keep-ascending}
 use Rattle.rules.proofs.Sets.{pairs-ascending, unique}
-use Rattle.rules.proofs.Serial.{Paired, serializes}
+use Rattle.rules.proofs.Serial.{serializes}
 
 -- ---- packet by packet, with the sets united
 

@@ -1,12 +1,12 @@
 -- A part changes only fields that it may write, and looks at none that it neither tests nor writes.
-use mathlib.Core.Path.{_≡_, refl, sym, ap, _∙_, subst}
+use mathlib.Core.Path.{_≡_, ap, _∙_, subst}
 use mathlib.Core.Logic.{inl, inr, ⊎-elim}
-use mathlib.Core.Bool.{Bool, true, false}
+use mathlib.Core.Bool.{false}
 use Prim.Native.Nat.{ℕ}
 use lib.ListN.{length, getD}
 use lib.Bits.{bitOr}
 use Rattle.rules.specs.Masks.{has, field}
-use Rattle.rules.specs.Packets.{Packet, passes, put, mix}
+use Rattle.rules.specs.Packets.{Packet, put, mix}
 use Rattle.rules.specs.Parts.{Part, Id, Drop, Test, Set, Not, Sum, Seq, Beside, Table, Open}
 use Rattle.rules.specs.Typing.{tested, written, Right}
 use Rattle.rules.specs.Meaning.{Gives}

@@ -17,4 +17,4 @@ pub mod Frame
 pub mod Serial
 pub mod Exact
 pub mod Lacked
-
+pub mod Padding
