@@ -209,6 +209,7 @@ module _ (p : Part) (formed : Formed p) (right : Right p) (k : ℕ) (few : k ≤
   words-ascending =
       take-ascending k rows (λ c m. let g = from-row c m in (g .0, g .1, g .2)) (ascends p (padded a ∷ []) (tt, tt))
 
-  pub words-determined : (t : Packets) → Ascending t → ((b : Packet) → (b ∈ t) ↔ Gives p a b) → t ≡ map (take k) (out p (padded a ∷ []))
+  pub words-determined : (t : Packets) → Ascending t → ((b : Packet) → (b ∈ t) ↔ Gives p a b)
+      → t ≡ map (take k) (out p (padded a ∷ []))
   words-determined t h e =
       unique t (map (take k) rows) h words-ascending (λ b. (λ m. words-exact b .1 (e b .0 m), λ m. e b .1 (words-exact b .0 m)))
