@@ -18,3 +18,4 @@ pub mod Serial
 pub mod Exact
 pub mod Lacked
 pub mod Padding
+pub mod Everywhere
