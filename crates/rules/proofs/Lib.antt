@@ -19,3 +19,6 @@ pub mod Exact
 pub mod Lacked
 pub mod Padding
 pub mod Everywhere
+pub mod MaskExt
+pub mod TypingLaws
+pub mod Stuck
