@@ -20,5 +20,5 @@ pub mod Lacked
 pub mod Padding
 pub mod Everywhere
 pub mod MaskExt
-pub mod TypingLaws
 pub mod Stuck
+pub mod Answering

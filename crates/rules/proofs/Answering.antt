@@ -1,0 +1,132 @@
+-- When each answer of the evaluator and of a run is given, and that nothing lent changes where a call is turned away.
+use Prim.Native.Nat.{ℕ, _*_, _≤_, _<_}
+use native.Mathlib.Omega.{arith}
+use mathlib.Core.Path.{_≡_, refl, sym, ap, _∙_}
+use mathlib.Core.Bool.{Bool, true, false, not, _&&_}
+use mathlib.Core.List.{List, [], _∷_}
+use lib.Dec.{leb, eqb}
+use lib.ListN.{length}
+use borrow.Author.Tests.{leb-true, le-leb, lt-leb, eqb-true, eq-eqb, ne-eqb, not-true}
+use Rattle.rules.specs.declared.Refusal.{Refusal}
+use Rattle.rules.specs.declared.Refusal.the-variants.{PacketLength, Unpopulated, TooWide, Positions, BufferLength, Stuck}
+use Rattle.rules.specs.declared.Sizes.{Sizes}
+use Rattle.rules.specs.declared.Verdict.{Verdict}
+use Rattle.rules.specs.declared.Verdict.the-variants.{Accepted, Refused}
+use Rattle.rules.specs.declared.Outcome.{Outcome}
+use Rattle.rules.specs.declared.Evaluated.{Evaluated}
+use Rattle.rules.specs.declared.Evaluated.the-variants.{Given, NotGiven}
+use Rattle.rules.specs.declared.Ran.{Ran}
+use Rattle.rules.specs.declared.Ran.the-variants.{Finished, Running, NotRun}
+use Rattle.rules.specs.Packets.{mostPackets}
+use Rattle.rules.specs.Parts.{namesOpen}
+use Rattle.rules.specs.Reading.{fieldsOf, mainOf, verdict}
+use Rattle.rules.specs.Working.{room, width}
+use Rattle.rules.specs.States.{finish, run, made, stuckIn}
+use Rattle.rules.specs.Answers.{mostPositions, areaWords, startSet, outcome, elseNotGiven, evaluatedOf, evaluated, resultIf, evaluatedResult, start, elseNotRun, ranOf, elseStuck, stopped, ran, resultRun, ranResult, areaRun, ranArea}
+use Rattle.rules.proofs.TypingLaws.{and-both}
+
+-- ---- what an evaluation and a run ask of a book and a packet
+
+-- not turned away by 1 to 9 and 10, the buffers aside
+pub record Granted (book packet : List ℕ) : Type 0 where
+  pub sizes : Sizes
+  pub accepted : verdict book ≡ Accepted sizes
+  pub words : length packet ≡ fieldsOf book
+  pub populated : namesOpen (mainOf book) ≡ false
+  pub narrow : width (mainOf book) (startSet packet) ≤ mostPackets
+
+-- nor by 11
+pub record Admitted (book packet : List ℕ) : Type 0 where
+  pub granted : Granted book packet
+  pub positions : room (mainOf book) (startSet packet) ≤ mostPositions
+
+-- ---- the evaluator's answers, one law for each way that it returns
+
+module _ (book packet : List ℕ) (words : ℕ) where
+  pub evaluated-refused : (r : Refusal) → verdict book ≡ Refused r → evaluated book packet words ≡ NotGiven r
+  unfolding evaluated
+  evaluated-refused r e = rw e
+
+  module _ (z : Sizes) (a : verdict book ≡ Accepted z) where
+    pub evaluated-packet : (length packet ≡ fieldsOf book → ⊥) → evaluated book packet words ≡ NotGiven PacketLength
+    unfolding evaluated
+    evaluated-packet h = rw (a, ne-eqb (length packet) (fieldsOf book) h)
+
+    module _ (l : length packet ≡ fieldsOf book) where
+      pub evaluated-buffer : words < mostPackets * fieldsOf book → evaluated book packet words ≡ NotGiven BufferLength
+      unfolding evaluated
+      evaluated-buffer h = rw (a, eq-eqb (length packet) (fieldsOf book) l, lt-leb (mostPackets * fieldsOf book) words h)
+
+      module _ (b : mostPackets * fieldsOf book ≤ words) where
+        pub evaluated-open : namesOpen (mainOf book) ≡ true → evaluated book packet words ≡ NotGiven Unpopulated
+        unfolding evaluated
+        evaluated-open h = rw (a, eq-eqb (length packet) (fieldsOf book) l, le-leb (mostPackets * fieldsOf book) words b, h)
+
+        module _ (n : namesOpen (mainOf book) ≡ false) where
+          pub evaluated-wide : mostPackets < width (mainOf book) (startSet packet) → evaluated book packet words ≡ NotGiven TooWide
+          unfolding evaluated
+          evaluated-wide h =
+              rw (a, eq-eqb (length packet) (fieldsOf book) l, le-leb (mostPackets * fieldsOf book) words b, n,
+              lt-leb (width (mainOf book) (startSet packet)) mostPackets h)
+
+  pub evaluated-given : Granted book packet → mostPackets * fieldsOf book ≤ words → evaluated book packet words ≡ Given (outcome book packet)
+  unfolding evaluated
+  evaluated-given g b =
+      rw (g .accepted, eq-eqb (length packet) (fieldsOf book) (g .words), le-leb (mostPackets * fieldsOf book) words b, g .populated,
+      le-leb (width (mainOf book) (startSet packet)) mostPackets (g .narrow))
+
+-- ---- and back: what was given was granted
+
+else-was : (t : Bool) (r : Refusal) (e : Evaluated) (o : Outcome) → elseNotGiven t r e ≡ Given o → (t ≡ true) × (e ≡ Given o)
+else-was true r e o q = (refl, q)
+else-was false r e o q = let z : _≡_ {A = ℕ} 0 1 = cc in absurd (omega arith)
+
+verdict-was : (v : Verdict) (e : Evaluated) (o : Outcome) → evaluatedOf v e ≡ Given o → (z : Sizes) × (v ≡ Accepted z) × (e ≡ Given o)
+verdict-was (Accepted z) e o q = (z, refl, q)
+verdict-was (Refused r) e o q = let z : _≡_ {A = ℕ} 0 1 = cc in absurd (omega arith)
+
+pub given-was : (book packet : List ℕ) (words : ℕ) (o : Outcome) → evaluated book packet words ≡ Given o
+    → Granted book packet × (mostPackets * fieldsOf book ≤ words) × (o ≡ outcome book packet)
+unfolding evaluated
+given-was book packet words o q =
+    let v = verdict-was (verdict book) _ o q in
+    let l = else-was (eqb (length packet) (fieldsOf book)) _ _ o (v .2) in
+    let b = else-was (leb (mostPackets * fieldsOf book) words) _ _ o (l .1) in
+    let n = else-was (not (namesOpen (mainOf book))) _ _ o (b .1) in
+    let w = else-was (leb (width (mainOf book) (startSet packet)) mostPackets) _ _ o (n .1) in
+    let e : Given o ≡ Given (outcome book packet) = sym (w .1) in
+    ( record {
+        sizes = v .0;
+        accepted = v .1;
+        words = eqb-true (length packet) (fieldsOf book) (l .0);
+        populated = not-true (namesOpen (mainOf book)) (n .0);
+        narrow = leb-true (width (mainOf book) (startSet packet)) mostPackets (w .0);
+      },
+      leb-true (mostPackets * fieldsOf book) words (b .0),
+      cc )
+
+-- ---- a run that is admitted stops as its schedule says
+
+pub ran-admitted : (book packet schedule : List ℕ) (words area : ℕ) → Admitted book packet → mostPackets * fieldsOf book ≤ words → areaWords ≤ area
+    → ran book packet schedule words area
+    ≡ elseStuck (stuckIn (start book packet) schedule)
+      (stopped (made (start book packet) schedule) (run (start book packet) schedule) (finish (run (start book packet) schedule)))
+unfolding ran
+ran-admitted book packet schedule words area a b w =
+    let g = a .granted in
+    rw (g .accepted, eq-eqb (length packet) (fieldsOf book) (g .words), le-leb (mostPackets * fieldsOf book) words b, le-leb areaWords area w,
+    g .populated, le-leb (width (mainOf book) (startSet packet)) mostPackets (g .narrow),
+    le-leb (room (mainOf book) (startSet packet)) mostPositions (a .positions))
+
+-- ---- "No refusal alters the result buffer or the working area"
+
+pub not-given-keeps : (book packet result : List ℕ) (r : Refusal) → evaluated book packet (length result) ≡ NotGiven r
+    → evaluatedResult book packet result ≡ result
+unfolding evaluatedResult
+not-given-keeps book packet result r e = rw e
+
+pub not-run-keeps : (book packet schedule result area : List ℕ) (r : Refusal)
+    → ran book packet schedule (length result) (length area) ≡ NotRun r
+    → (ranResult book packet schedule result (length area) ≡ result) × (ranArea book packet schedule (length result) area ≡ area)
+unfolding ranResult ranArea
+not-run-keeps book packet schedule result area r e = (rw e, rw e)
