@@ -22,3 +22,4 @@ pub mod Everywhere
 pub mod MaskExt
 pub mod Stuck
 pub mod Answering
+pub mod Runs

@@ -1,0 +1,71 @@
+-- The answer of a run under every schedule: one number N, finished with the evaluator's packets or unfinished with a step ready.
+use Prim.Native.Nat.{ℕ, _+_, _*_, _≤_, _<_}
+use native.Mathlib.Omega.{arith}
+use mathlib.Core.Path.{_≡_, refl, sym, ap, _∙_}
+use mathlib.Core.List.{List, [], _∷_}
+use lib.ListN.{length}
+use Rattle.rules.specs.declared.Finish.{Finish}
+use Rattle.rules.specs.declared.Progress.{Progress}
+use Rattle.rules.specs.declared.Ran.{Ran}
+use Rattle.rules.specs.declared.Ran.the-variants.{Finished, Running}
+use Rattle.rules.specs.Packets.{mostPackets}
+use Rattle.rules.specs.Typing.{tested, written, Right}
+use Rattle.rules.specs.Reading.{fieldsOf, mainOf}
+use Rattle.rules.specs.Working.{out, steps, room}
+use Rattle.rules.specs.States.{Tree, done, place, finish, live, ready, run, made, stuckIn}
+use Rattle.rules.specs.Answers.{areaWords, startSet, startSpot, given, outcome, evaluated, evaluatedResult, resultIf, start, elseStuck, stopped, ran, resultRun, ranResult, ranArea}
+use Rattle.rules.specs.Masks.{allFields}
+use Rattle.rules.proofs.MaskLaws.{Sub}
+use Rattle.rules.proofs.Schedules.{Ending, enough, short, ending}
+use Rattle.rules.proofs.Rooms.{live-room}
+use Rattle.rules.proofs.Stuck.{never-stuck}
+use Rattle.rules.proofs.Answering.{Granted, Admitted, ran-admitted, evaluated-given}
+
+-- N of a book and a packet
+abbrev pub stepsOf : List ℕ → List ℕ → ℕ
+stepsOf book packet = steps (mainOf book) (startSet packet)
+
+-- what a run answers: at least N choices stop after exactly N steps, with as many packets as the evaluator gives; fewer stop
+-- unfinished, each choice a step, with a step ready and no more positions live than the room
+pub data Stops (book packet schedule : List ℕ) (a : Ran) : Type 0 where
+  finishes : stepsOf book packet ≤ length schedule
+      → a ≡ Finished (record { steps = stepsOf book packet; count = length (given book packet) }) → Stops book packet schedule a
+  goes-on : length schedule < stepsOf book packet → (l r : ℕ) → l ≤ room (mainOf book) (startSet packet) → 0 < r
+      → a ≡ Running (record { steps = length schedule; live = l; ready = r }) → Stops book packet schedule a
+
+module _ (book packet schedule : List ℕ) (words area : ℕ) (admitted : Admitted book packet)
+    (fit : mostPackets * fieldsOf book ≤ words) (wide : areaWords ≤ area) (right : Right (mainOf book))
+    (tests : Sub (tested (mainOf book)) (allFields (fieldsOf book))) (writes : Sub (written (mainOf book)) (allFields (fieldsOf book))) where
+  -- no step is stuck: the run stops where its schedule ends or it is finished
+  pub ran-stopped : ran book packet schedule words area
+      ≡ stopped (made (start book packet) schedule) (run (start book packet) schedule) (finish (run (start book packet) schedule))
+  unfolding start
+  ran-stopped =
+      ran-admitted book packet schedule words area admitted fit wide
+      ∙ ap (λ (l : List ℕ). elseStuck l (stopped (made (start book packet) schedule) (run (start book packet) schedule) (finish (run (start book packet) schedule))))
+        (never-stuck (startSpot book) (mainOf book) right tests writes (startSet packet) schedule .1)
+
+  by-ending : Ending (startSpot book) (mainOf book) (startSet packet) schedule → Stops book packet schedule (ran book packet schedule words area)
+  unfolding start given finish
+  by-ending (enough h e n) = finishes h (ran-stopped ∙ rw (e, n))
+  by-ending (short h e r n) =
+      goes-on h (live (run (start book packet) schedule)) (ready (run (start book packet) schedule))
+      (live-room (startSpot book) (mainOf book) (startSet packet) schedule) r (ran-stopped ∙ rw (e, n))
+
+  pub stops : Stops book packet schedule (ran book packet schedule words area)
+  stops = by-ending (ending (startSpot book) (mainOf book) (startSet packet) schedule)
+
+-- a finished run leaves the result buffer as the evaluator does
+module _ (book packet schedule result : List ℕ) (area : ℕ) (admitted : Admitted book packet)
+    (fit : mostPackets * fieldsOf book ≤ length result) (wide : areaWords ≤ area) (right : Right (mainOf book))
+    (tests : Sub (tested (mainOf book)) (allFields (fieldsOf book))) (writes : Sub (written (mainOf book)) (allFields (fieldsOf book))) where
+  by-enough : Ending (startSpot book) (mainOf book) (startSet packet) schedule → stepsOf book packet ≤ length schedule
+      → ranResult book packet schedule result area ≡ evaluatedResult book packet result
+  unfolding ranResult evaluatedResult start given finish
+  by-enough (enough h e n) l =
+      rw (ran-stopped book packet schedule (length result) area admitted fit wide right tests writes,
+      evaluated-given book packet (length result) (admitted .granted) fit, e)
+  by-enough (short h e r n) l = absurd (omega arith)
+
+  pub same-words : stepsOf book packet ≤ length schedule → ranResult book packet schedule result area ≡ evaluatedResult book packet result
+  same-words = by-enough (ending (startSpot book) (mainOf book) (startSet packet) schedule)
