@@ -1,29 +1,27 @@
 -- When each answer of the evaluator and of a run is given, and that nothing lent changes where a call is turned away.
 use Prim.Native.Nat.{ℕ, _*_, _≤_, _<_}
 use native.Mathlib.Omega.{arith}
-use mathlib.Core.Path.{_≡_, refl, sym, ap, _∙_}
-use mathlib.Core.Bool.{Bool, true, false, not, _&&_}
-use mathlib.Core.List.{List, [], _∷_}
+use mathlib.Core.Path.{_≡_, refl, sym}
+use mathlib.Core.Bool.{Bool, true, false, not}
+use mathlib.Core.List.{List}
 use lib.Dec.{leb, eqb}
 use lib.ListN.{length}
 use borrow.Author.Tests.{leb-true, le-leb, lt-leb, eqb-true, eq-eqb, ne-eqb, not-true}
 use Rattle.rules.specs.declared.Refusal.{Refusal}
-use Rattle.rules.specs.declared.Refusal.the-variants.{PacketLength, Unpopulated, TooWide, Positions, BufferLength, Stuck}
+use Rattle.rules.specs.declared.Refusal.the-variants.{PacketLength, Unpopulated, TooWide, BufferLength}
 use Rattle.rules.specs.declared.Sizes.{Sizes}
 use Rattle.rules.specs.declared.Verdict.{Verdict}
 use Rattle.rules.specs.declared.Verdict.the-variants.{Accepted, Refused}
 use Rattle.rules.specs.declared.Outcome.{Outcome}
 use Rattle.rules.specs.declared.Evaluated.{Evaluated}
 use Rattle.rules.specs.declared.Evaluated.the-variants.{Given, NotGiven}
-use Rattle.rules.specs.declared.Ran.{Ran}
-use Rattle.rules.specs.declared.Ran.the-variants.{Finished, Running, NotRun}
+use Rattle.rules.specs.declared.Ran.the-variants.{NotRun}
 use Rattle.rules.specs.Packets.{mostPackets}
 use Rattle.rules.specs.Parts.{namesOpen}
 use Rattle.rules.specs.Reading.{fieldsOf, mainOf, verdict}
 use Rattle.rules.specs.Working.{room, width}
 use Rattle.rules.specs.States.{finish, run, made, stuckIn}
-use Rattle.rules.specs.Answers.{mostPositions, areaWords, startSet, outcome, elseNotGiven, evaluatedOf, evaluated, resultIf, evaluatedResult, start, elseNotRun, ranOf, elseStuck, stopped, ran, resultRun, ranResult, areaRun, ranArea}
-use Rattle.rules.proofs.TypingLaws.{and-both}
+use Rattle.rules.specs.Answers.{mostPositions, areaWords, startSet, outcome, elseNotGiven, evaluatedOf, evaluated, evaluatedResult, start, elseStuck, stopped, ran, ranResult, ranArea}
 
 -- ---- what an evaluation and a run ask of a book and a packet
 
@@ -66,14 +64,24 @@ module _ (book packet : List ℕ) (words : ℕ) where
           pub evaluated-wide : mostPackets < width (mainOf book) (startSet packet) → evaluated book packet words ≡ NotGiven TooWide
           unfolding evaluated
           evaluated-wide h =
-              rw (a, eq-eqb (length packet) (fieldsOf book) l, le-leb (mostPackets * fieldsOf book) words b, n,
-              lt-leb (width (mainOf book) (startSet packet)) mostPackets h)
+              rw (
+                a,
+                eq-eqb (length packet) (fieldsOf book) l,
+                le-leb (mostPackets * fieldsOf book) words b,
+                n,
+                lt-leb (width (mainOf book) (startSet packet)) mostPackets h,
+              )
 
   pub evaluated-given : Granted book packet → mostPackets * fieldsOf book ≤ words → evaluated book packet words ≡ Given (outcome book packet)
   unfolding evaluated
   evaluated-given g b =
-      rw (g .accepted, eq-eqb (length packet) (fieldsOf book) (g .words), le-leb (mostPackets * fieldsOf book) words b, g .populated,
-      le-leb (width (mainOf book) (startSet packet)) mostPackets (g .narrow))
+      rw (
+        g .accepted,
+        eq-eqb (length packet) (fieldsOf book) (g .words),
+        le-leb (mostPackets * fieldsOf book) words b,
+        g .populated,
+        le-leb (width (mainOf book) (startSet packet)) mostPackets (g .narrow),
+      )
 
 -- ---- and back: what was given was granted
 
@@ -94,8 +102,8 @@ given-was book packet words o q =
     let b = else-was (leb (mostPackets * fieldsOf book) words) _ _ o (l .1) in
     let n = else-was (not (namesOpen (mainOf book))) _ _ o (b .1) in
     let w = else-was (leb (width (mainOf book) (startSet packet)) mostPackets) _ _ o (n .1) in
-    let e : Given o ≡ Given (outcome book packet) = sym (w .1) in
-    ( record {
+    let e : Given o ≡ Given (outcome book packet) = sym (w .1) in (
+      record {
         sizes = v .0;
         accepted = v .1;
         words = eqb-true (length packet) (fieldsOf book) (l .0);
@@ -103,20 +111,27 @@ given-was book packet words o q =
         narrow = leb-true (width (mainOf book) (startSet packet)) mostPackets (w .0);
       },
       leb-true (mostPackets * fieldsOf book) words (b .0),
-      cc )
+      cc,
+    )
 
 -- ---- a run that is admitted stops as its schedule says
 
 pub ran-admitted : (book packet schedule : List ℕ) (words area : ℕ) → Admitted book packet → mostPackets * fieldsOf book ≤ words → areaWords ≤ area
     → ran book packet schedule words area
     ≡ elseStuck (stuckIn (start book packet) schedule)
-      (stopped (made (start book packet) schedule) (run (start book packet) schedule) (finish (run (start book packet) schedule)))
+    (stopped (made (start book packet) schedule) (run (start book packet) schedule) (finish (run (start book packet) schedule)))
 unfolding ran
 ran-admitted book packet schedule words area a b w =
     let g = a .granted in
-    rw (g .accepted, eq-eqb (length packet) (fieldsOf book) (g .words), le-leb (mostPackets * fieldsOf book) words b, le-leb areaWords area w,
-    g .populated, le-leb (width (mainOf book) (startSet packet)) mostPackets (g .narrow),
-    le-leb (room (mainOf book) (startSet packet)) mostPositions (a .positions))
+    rw (
+      g .accepted,
+      eq-eqb (length packet) (fieldsOf book) (g .words),
+      le-leb (mostPackets * fieldsOf book) words b,
+      le-leb areaWords area w,
+      g .populated,
+      le-leb (width (mainOf book) (startSet packet)) mostPackets (g .narrow),
+      le-leb (room (mainOf book) (startSet packet)) mostPositions (a .positions),
+    )
 
 -- ---- "No refusal alters the result buffer or the working area"
 

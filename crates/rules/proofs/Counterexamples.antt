@@ -1,18 +1,18 @@
 -- Each of the five conditions of a right concurrent part is needed: five books that lack one alone, are refused with 7, and whose
 -- concurrent part gives other packets than the sequence (all but one would be stuck besides). And the trap: pairing across packets.
-use Prim.Native.Nat.{ℕ, _+_, _*_}
+use Prim.Native.Nat.{ℕ}
 use mathlib.Core.Path.{_≡_, refl}
 use mathlib.Core.Bool.{Bool, true, false}
-use mathlib.Core.List.{List, [], _∷_, _++_, map}
-use lib.ListN.{length, replicate}
+use mathlib.Core.List.{List, [], _∷_, map}
+use lib.ListN.{length}
 use Rattle.rules.specs.Masks.{has, apart, within, less}
-use Rattle.rules.specs.Packets.{Packet, Packets, padded, passes, put, mix, without, orderOf, insert, union, keep, member, pairsInto, pairs}
-use Rattle.rules.specs.Parts.{Part, Id, Drop, Test, Set, Not, Sum, Seq, Beside, Table, Open, write, parts, deep}
+use Rattle.rules.specs.Packets.{Packets, padded, passes, put, mix, without, orderOf, insert, union, keep, member, pairsInto, pairs}
+use Rattle.rules.specs.Parts.{Part, Id, Test, Set, Seq, Beside, write, parts, deep}
 use Rattle.rules.specs.Typing.{tested, written, rightMasks, fitMasks, wrongs}
 use Rattle.rules.specs.Books.{entries, bytesOf, masksFit}
 use Rattle.rules.specs.Reading.{byteIf, stands, operandFits, readOperands, readPart, readBody, bodyStart, readEntry, readEntries, masksRight, after, built, partAt, bodyAt, useAt, mainOf, tablesFrom, policyOf, wrongBody, misfit, wrongsIn, misfitsIn, typingFaults, sizesOf, verdict}
 use Rattle.rules.specs.Working.{each, out}
-use Rattle.rules.specs.States.{Spot, place, enter, finish, leave, next, move, used, lacking, stuckSteps, stuckIn}
+use Rattle.rules.specs.States.{place, enter, finish, leave, next, move, used, lacking, stuckSteps, stuckIn}
 use Rattle.rules.specs.Answers.{Says, refusal, numberOf, placeOf, refusalSays, verdictSays}
 
 -- masks and sides of a concurrent part

@@ -1,43 +1,34 @@
 -- Masks as sets of fields: what the mask operations say of a field, over masks of any width.
 use mathlib.Core.Path.{_≡_, refl, sym, ap, _∙_}
 use mathlib.Core.Bool.{Bool, true, false, not, _&&_, _||_, true≢false, false≢true}
-use Prim.Native.Nat.{ℕ, zero, suc, _+_, _-_, _*_, _/_, _%_, _^_, _≤_, _<_}
+use Prim.Native.Nat.{ℕ, zero, suc, _/_, _%_, _^_, _<_}
 use native.Mathlib.Omega.{arith}
 use native.Mathlib.Nat.{mod-lt, zero-div, div-self}
 use lib.Dec.{eqb}
 use lib.Bits.{bitAnd, bitOr, bitXor, xor-shr, xor-mod, or-shr, and-shr, or-mod, and-mod, and-comm}
 use lib.Pow.{pow-pos}
-use borrow.Author.Tests.{eqb-true, eq-eqb}
+use borrow.Author.Tests.{eqb-true}
 use Rattle.rules.specs.Masks.{has, field, apart, within, less}
 
 -- ---- one bit
 
+two-bits : (P : ℕ → ℕ → Type 0) → P 0 0 → P 0 1 → P 1 0 → P 1 1 → (u v : ℕ) → u < 2 → v < 2 → P u v
+two-bits P a b c d zero zero h k = a
+two-bits P a b c d zero (suc zero) h k = b
+two-bits P a b c d (suc zero) zero h k = c
+two-bits P a b c d (suc zero) (suc zero) h k = d
+two-bits P a b c d zero (suc (suc v)) h k = absurd (omega arith)
+two-bits P a b c d (suc zero) (suc (suc v)) h k = absurd (omega arith)
+two-bits P a b c d (suc (suc u)) v h k = absurd (omega arith)
+
 or-bits : (u v : ℕ) → u < 2 → v < 2 → eqb (bitOr u v) 1 ≡ (eqb u 1 || eqb v 1)
-or-bits zero zero h k = refl
-or-bits zero (suc zero) h k = refl
-or-bits (suc zero) zero h k = refl
-or-bits (suc zero) (suc zero) h k = refl
-or-bits zero (suc (suc v)) h k = absurd (omega arith)
-or-bits (suc zero) (suc (suc v)) h k = absurd (omega arith)
-or-bits (suc (suc u)) v h k = absurd (omega arith)
+or-bits = two-bits (λ u v. eqb (bitOr u v) 1 ≡ (eqb u 1 || eqb v 1)) refl refl refl refl
 
 and-bits : (u v : ℕ) → u < 2 → v < 2 → eqb (bitAnd u v) 1 ≡ (eqb u 1 && eqb v 1)
-and-bits zero zero h k = refl
-and-bits zero (suc zero) h k = refl
-and-bits (suc zero) zero h k = refl
-and-bits (suc zero) (suc zero) h k = refl
-and-bits zero (suc (suc v)) h k = absurd (omega arith)
-and-bits (suc zero) (suc (suc v)) h k = absurd (omega arith)
-and-bits (suc (suc u)) v h k = absurd (omega arith)
+and-bits = two-bits (λ u v. eqb (bitAnd u v) 1 ≡ (eqb u 1 && eqb v 1)) refl refl refl refl
 
 less-bits : (u v : ℕ) → u < 2 → v < 2 → eqb (bitXor (bitOr u v) v) 1 ≡ (eqb u 1 && not (eqb v 1))
-less-bits zero zero h k = refl
-less-bits zero (suc zero) h k = refl
-less-bits (suc zero) zero h k = refl
-less-bits (suc zero) (suc zero) h k = refl
-less-bits zero (suc (suc v)) h k = absurd (omega arith)
-less-bits (suc zero) (suc (suc v)) h k = absurd (omega arith)
-less-bits (suc (suc u)) v h k = absurd (omega arith)
+less-bits = two-bits (λ u v. eqb (bitXor (bitOr u v) v) 1 ≡ (eqb u 1 && not (eqb v 1))) refl refl refl refl
 
 -- ---- each operation at a field
 

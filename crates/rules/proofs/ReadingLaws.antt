@@ -2,20 +2,20 @@
 use Prim.Native.Nat.{ℕ, zero, suc, _+_, _-_, _*_, _^_, _%_, _<_, _≤_}
 use native.Mathlib.Nat.{one-mul, mod-eq-of-lt}
 use native.Mathlib.Omega.{arith}
-use mathlib.Core.Path.{_≡_, refl, sym, ap, _∙_}
+use mathlib.Core.Path.{_≡_, refl, _∙_}
 use mathlib.Core.Bool.{Bool, true, false, not, _&&_, _||_, cond}
 use mathlib.Core.Logic.{_⊎_, ⊎-elim}
-use mathlib.Core.List.{List, [], _∷_}
+use mathlib.Core.List.{List}
 use lib.ListN.{length, getD, List·getD-eq-default}
 use lib.Dec.{ltb, leb, eqb, lit≤}
 use native.Mathlib.Numerals.{sub-one}
 use Rattle.rules.specs.Codes.{operandsOf, partsOf}
-use lib.Pow.{pow-lt, pow-mono}
-use borrow.Author.Tests.{ltb-true, lt-ltb, le-ltb, le-leb, lt-leb, eq-eqb, ne-eqb}
+use lib.Pow.{pow-lt}
+use borrow.Author.Tests.{ltb-true, lt-ltb, le-ltb, eq-eqb, ne-eqb}
 use Rattle.rules.specs.declared.Reading.{Reading}
 use Rattle.rules.specs.declared.Reading.the-variants.{Next, Wrong}
 use Rattle.rules.specs.Books.{Scope, mostDepth}
-use Rattle.rules.specs.Reading.{andThen, byteIf, standing, stands, operandTests, operandFits, anyByte, readOperands, readPart, readTimes, readBody}
+use Rattle.rules.specs.Reading.{andThen, byteIf, standing, stands, operandFits, readOperands, readPart, readTimes, readBody}
 
 -- the three answers at a byte
 module _ (s : List ℕ) (ok : ℕ → Bool) (at : ℕ) where

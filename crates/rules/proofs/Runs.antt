@@ -1,25 +1,23 @@
 -- The answer of a run under every schedule: one number N, finished with the evaluator's packets or unfinished with a step ready.
-use Prim.Native.Nat.{ℕ, _+_, _*_, _≤_, _<_}
+use Prim.Native.Nat.{ℕ, _*_, _≤_, _<_}
 use native.Mathlib.Omega.{arith}
-use mathlib.Core.Path.{_≡_, refl, sym, ap, _∙_}
-use mathlib.Core.List.{List, [], _∷_}
+use mathlib.Core.Path.{_≡_, ap, _∙_}
+use mathlib.Core.List.{List}
 use lib.ListN.{length}
-use Rattle.rules.specs.declared.Finish.{Finish}
-use Rattle.rules.specs.declared.Progress.{Progress}
 use Rattle.rules.specs.declared.Ran.{Ran}
 use Rattle.rules.specs.declared.Ran.the-variants.{Finished, Running}
 use Rattle.rules.specs.Packets.{mostPackets}
 use Rattle.rules.specs.Typing.{tested, written, Right}
 use Rattle.rules.specs.Reading.{fieldsOf, mainOf}
-use Rattle.rules.specs.Working.{out, steps, room}
-use Rattle.rules.specs.States.{Tree, done, place, finish, live, ready, run, made, stuckIn}
-use Rattle.rules.specs.Answers.{areaWords, startSet, startSpot, given, outcome, evaluated, evaluatedResult, resultIf, start, elseStuck, stopped, ran, resultRun, ranResult, ranArea}
+use Rattle.rules.specs.Working.{steps, room}
+use Rattle.rules.specs.States.{finish, live, ready, run, made}
+use Rattle.rules.specs.Answers.{areaWords, startSet, startSpot, given, evaluatedResult, start, elseStuck, stopped, ran, ranResult}
 use Rattle.rules.specs.Masks.{allFields}
 use Rattle.rules.proofs.MaskLaws.{Sub}
 use Rattle.rules.proofs.Schedules.{Ending, enough, short, ending}
 use Rattle.rules.proofs.Rooms.{live-room}
 use Rattle.rules.proofs.Stuck.{never-stuck}
-use Rattle.rules.proofs.Answering.{Granted, Admitted, ran-admitted, evaluated-given}
+use Rattle.rules.proofs.Answering.{Admitted, ran-admitted, evaluated-given}
 
 -- N of a book and a packet
 abbrev pub stepsOf : List ℕ → List ℕ → ℕ
@@ -43,7 +41,7 @@ module _ (book packet schedule : List ℕ) (words area : ℕ) (admitted : Admitt
   ran-stopped =
       ran-admitted book packet schedule words area admitted fit wide
       ∙ ap (λ (l : List ℕ). elseStuck l (stopped (made (start book packet) schedule) (run (start book packet) schedule) (finish (run (start book packet) schedule))))
-        (never-stuck (startSpot book) (mainOf book) right tests writes (startSet packet) schedule .1)
+      (never-stuck (startSpot book) (mainOf book) right tests writes (startSet packet) schedule .1)
 
   by-ending : Ending (startSpot book) (mainOf book) (startSet packet) schedule → Stops book packet schedule (ran book packet schedule words area)
   unfolding start given finish
@@ -63,8 +61,11 @@ module _ (book packet schedule result : List ℕ) (area : ℕ) (admitted : Admit
       → ranResult book packet schedule result area ≡ evaluatedResult book packet result
   unfolding ranResult evaluatedResult start given finish
   by-enough (enough h e n) l =
-      rw (ran-stopped book packet schedule (length result) area admitted fit wide right tests writes,
-      evaluated-given book packet (length result) (admitted .granted) fit, e)
+      rw (
+        ran-stopped book packet schedule (length result) area admitted fit wide right tests writes,
+        evaluated-given book packet (length result) (admitted .granted) fit,
+        e,
+      )
   by-enough (short h e r n) l = absurd (omega arith)
 
   pub same-words : stepsOf book packet ≤ length schedule → ranResult book packet schedule result area ≡ evaluatedResult book packet result

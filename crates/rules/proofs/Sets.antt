@@ -10,7 +10,7 @@ use Rattle.rules.specs.declared.Order.{Order}
 use Rattle.rules.specs.declared.Order.the-variants.{Less, Same, More}
 use Rattle.rules.specs.Packets.{Packet, Packets, mix, orderOf, Before, AllAfter, Ascending, _∈_, putBy, insert, union}
 use Rattle.rules.specs.Packets.{consIf, keep, isSame, member, lacks, gathered, pairsInto, pairs}
-use Rattle.rules.proofs.Orders.{order-refl, order-same, order-turned, before-irrefl, before-trans, before-not-after, after-trans}
+use Rattle.rules.proofs.Orders.{order-refl, order-same, order-turned, before-irrefl, before-not-after, after-trans}
 
 pub cast∈ : (b c : Packet) (s : Packets) → b ≡ c → c ∈ s → b ∈ s
 cast∈ b c s e h = subst (λ (x : Packet). x ∈ s) (sym e) h

@@ -1,15 +1,14 @@
 -- One step keeps the final set, takes one of the steps to go, and stays within the room and the width.
-use Prim.Native.Nat.{ℕ, suc, _+_, _≤_}
+use Prim.Native.Nat.{suc, _+_, _≤_}
 use native.Mathlib.Omega.{arith}
 use mathlib.Core.Path.{_≡_, refl, sym, ap, _∙_}
-use mathlib.Core.Bool.{Bool, true, false}
 use mathlib.Core.List.{List, [], _∷_}
-use lib.ListN.{length}
-use Rattle.rules.specs.Packets.{Packet, Packets, without, consIf, keep, lacks}
+use Rattle.rules.specs.Packets.{Packets, without, keep, lacks}
 use Rattle.rules.specs.Parts.{Part, Id, Drop, Test, Set, Not, Sum, Seq, Beside, Table, Open, size}
 use Rattle.rules.specs.Working.{each, out, steps, room, own, width}
 use Rattle.rules.specs.States.{Spot, on, moved, losing, Join, join, Tree, placed, done, waiting, negated, both, place, enter, finish, leave, next}
 use Rattle.rules.proofs.Lists.{All, none, also, all-append, all-map}
+use Rattle.rules.proofs.Sets.{keep-length}
 use Rattle.rules.proofs.Measures.{final, extra, rest, peak, broad}
 use Rattle.rules.proofs.Bounds.{handed, width-one, width-more}
 
@@ -169,15 +168,6 @@ ended (done s) = also (record { set = refl; rest = refl }) none
 ended (waiting t o q) = none
 ended (negated k t) = none
 ended (both j t u) = none
-
-kept-if : (b : Bool) (x : Packet) (s : Packets) (n : ℕ) → length s ≤ n → length (consIf b x s) ≤ suc n
-kept-if true x s n h = omega arith
-kept-if false x s n h = omega arith
-
-pub keep-length : (f : Packet → Bool) (s : Packets) → length (keep f s) ≤ length s
-unfolding keep
-keep-length f [] = omega arith
-keep-length f (x ∷ s) = kept-if (f x) x (keep f s) (length s) (keep-length f s)
 
 takes : (t : Tree) (o : Spot) (q : Part) (s : Packets) → Ended t s → Step (waiting t o q) (place o q s)
 unfolding final rest peak broad

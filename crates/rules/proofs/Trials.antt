@@ -1,6 +1,6 @@
 -- The trials of document 01 that are marked *, proved together as one statement about a list: the packets, N, n, D and the room,
 -- the refusals with their places, and what a run of each finishes or stops with.
-use Prim.Native.Nat.{ℕ, _+_, _*_}
+use Prim.Native.Nat.{ℕ}
 use mathlib.Core.Path.{_≡_, refl}
 use mathlib.Core.List.{List, [], _∷_, _++_, map}
 use lib.ListN.{length, replicate}

@@ -7,19 +7,16 @@ use lib.Dec.{leb, eqb}
 use lib.ListN.{length, drop, replicate}
 use Rattle.rules.specs.declared.Refusal.{Refusal}
 use Rattle.rules.specs.declared.Refusal.the-variants.{BookLength, Counts, Lengths, EntryMasks, Form, Limits, Typing, PacketLength, Unpopulated, TooWide, Positions, BufferLength, Stuck, Input}
-use Rattle.rules.specs.declared.Sizes.{Sizes}
 use Rattle.rules.specs.declared.Verdict.{Verdict}
 use Rattle.rules.specs.declared.Verdict.the-variants.{Accepted, Refused}
 use Rattle.rules.specs.declared.Outcome.{Outcome}
 use Rattle.rules.specs.declared.Evaluated.{Evaluated}
 use Rattle.rules.specs.declared.Evaluated.the-variants.{Given, NotGiven}
-use Rattle.rules.specs.declared.Finish.{Finish}
-use Rattle.rules.specs.declared.Progress.{Progress}
 use Rattle.rules.specs.declared.Ran.{Ran}
 use Rattle.rules.specs.declared.Ran.the-variants.{Finished, Running, NotRun}
 use Rattle.rules.specs.Masks.{allFields}
 use Rattle.rules.specs.Packets.{Packets, mostPackets, padded, valuesOf}
-use Rattle.rules.specs.Parts.{Part, parts, deep, namesOpen}
+use Rattle.rules.specs.Parts.{parts, deep, namesOpen}
 use Rattle.rules.specs.Reading.{fieldsOf, bodyStart, mainOf, verdict}
 use Rattle.rules.specs.Working.{out, steps, room, width}
 use Rattle.rules.specs.States.{Spot, Tree, place, finish, live, ready, run, made, stuckIn}

@@ -1,5 +1,5 @@
 -- A policy as a tree of parts, the bytes that it is written as, n and D (document 01, "The policy book").
-use Prim.Native.Nat.{ℕ, zero, suc, _+_, _/_, _%_, max}
+use Prim.Native.Nat.{ℕ, suc, _+_, _/_, _%_, max}
 use mathlib.Core.Bool.{Bool, true, false, _||_}
 use mathlib.Core.List.{List, [], _∷_, _++_}
 use lib.ListN.{length}

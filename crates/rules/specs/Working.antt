@@ -1,6 +1,6 @@
 -- What the steps lead to on a set: the packets, N, the room and the width (document 01, "Meaning" and "Steps").
 use Prim.Native.Nat.{ℕ, _+_, max}
-use mathlib.Core.List.{List, [], _∷_, map}
+use mathlib.Core.List.{[], _∷_, map}
 use lib.ListN.{length}
 use Rattle.rules.specs.Packets.{Packet, Packets, passes, put, without, union, keep, lacks, gathered, pairs}
 use Rattle.rules.specs.Parts.{Part, Id, Drop, Test, Set, Not, Sum, Seq, Beside, Table, Open}
