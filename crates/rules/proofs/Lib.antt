@@ -1,3 +1,4 @@
+pub mod Decoding
 pub mod Lists
 pub mod MaskLaws
 pub mod ReadingLaws
