@@ -257,7 +257,7 @@ module _ (s : List ℕ) (small : Bytes s) (c : Scope) (named : ℕ → Part) (na
 
 -- ---- what is written is read
 
-drop-head : (s : List ℕ) (at x : ℕ) (r : List ℕ) → drop at s ≡ x ∷ r → (at < length s) × (getD s at 0 ≡ x) × (drop (at + 1) s ≡ r)
+pub drop-head : (s : List ℕ) (at x : ℕ) (r : List ℕ) → drop at s ≡ x ∷ r → (at < length s) × (getD s at 0 ≡ x) × (drop (at + 1) s ≡ r)
 drop-head s at x r e =
     let lt : at < length s = omega (arith, ap length e, length-drop at s) in
     let q : drop at s ≡ getD s at 0 ∷ drop (suc at) s = drop-cons s at 0 lt in

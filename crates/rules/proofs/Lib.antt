@@ -24,3 +24,4 @@ pub mod MaskExt
 pub mod Stuck
 pub mod Answering
 pub mod Runs
+pub mod Standing
