@@ -25,3 +25,4 @@ pub mod Stuck
 pub mod Answering
 pub mod Runs
 pub mod Standing
+pub mod Whole
