@@ -26,3 +26,4 @@ pub mod Answering
 pub mod Runs
 pub mod Standing
 pub mod Whole
+pub mod WrittenBytes
