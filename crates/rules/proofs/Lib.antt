@@ -1,4 +1,5 @@
 pub mod Decoding
+pub mod Faults
 pub mod Lists
 pub mod MaskLaws
 pub mod ReadingLaws
