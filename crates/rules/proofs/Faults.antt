@@ -12,6 +12,7 @@ use Rattle.rules.specs.Typing.{rightBeside, fits, Right, wrongs}
 use Rattle.rules.specs.Books.{mostDepth, Entry, Policy, entries, bytesOf, firstBody, startIn, useOf, noEntry, tableOf, Scope, scopeOf, noUse, Fine, OfBody, OfEach, WellFormed, Typed}
 use Rattle.rules.specs.Reading.{wrongBody, misfit, wrongsIn, misfitsIn, typingFaults}
 use Rattle.rules.proofs.Whole.{FineBody}
+use Rattle.rules.proofs.FineLaws.{OfUses, no-uses, of-tables}
 
 append-empty : (l m : List ℕ) → l ++ m ≡ [] → (l ≡ []) × (m ≡ [])
 append-empty [] m e = (refl, e)
@@ -23,11 +24,7 @@ fault-none false at e = let z : _≡_ {A = ℕ} 0 1 = cc in absurd (omega arith)
 
 -- ---- one body
 
--- where code 8 may stand, the tables are right
-abbrev RightUses : Scope → (ℕ → Part) → Type 0
-RightUses c named = c .main ≡ true → (x : ℕ) → 0 < x → x ≤ c .tables → Right (named x)
-
-module _ (c : Scope) (named : ℕ → Part) (uses : RightUses c named) where
+module _ (c : Scope) (named : ℕ → Part) (uses : OfUses Right c named) where
   right-two : (p q : Part) (a b : ℕ) → wrongs a p ++ wrongs b q ≡ [] → (wrongs a p ≡ [] → Right p) → (wrongs b q ≡ [] → Right q) → Right p × Right q
   right-two p q a b e f g = let w = append-empty (wrongs a p) (wrongs b q) e in (f (w .0), g (w .1))
 
@@ -105,22 +102,12 @@ entries-typed at (e ∷ es) h =
 
 -- ---- the whole policy
 
-each-at : (C : Entry → Type 0) (es : List Entry) (i : ℕ) → OfEach C es → i < length es → C (getD es i noEntry)
-each-at C [] i h l = absurd (omega arith)
-each-at C (e ∷ es) zero h l = h .0
-each-at C (e ∷ es) (suc i) h l = each-at C es i (h .1) (omega arith)
-
 right-use : (x start : ℕ) (e : Entry) → TypedBody e → Right (useOf x (e .reads) (e .writes) start (e .body))
 right-use x start e = go (e .body)
   where
     go : (b : Option Part) → OfBody (λ p. Right p × (fits (e .reads) (e .writes) p ≡ true)) b → Right (useOf x (e .reads) (e .writes) start b)
     go none h = tt
     go (some p) h = (h .1, h .0)
-
-right-table : (P : Policy) → OfEach TypedBody (P .tables) → (x : ℕ) → 0 < x → x ≤ length (P .tables) → Right (tableOf P x)
-unfolding tableOf entries
-right-table P h zero l u = absurd (omega arith)
-right-table P h (suc i) l u = right-use (suc i) _ (getD (P .tables) i noEntry) (each-at TypedBody (P .tables) i h (omega arith))
 
 module _ (P : Policy) (w : WellFormed P) where
   typed : typingFaults P ≡ [] → Typed P
@@ -135,9 +122,9 @@ module _ (P : Policy) (w : WellFormed P) where
       let a = append-empty (wrongs at (P .main)) (wrongsIn next (P .tables)) (f .0) in
       let b = append-empty (misfit at main (some (P .main))) (misfitsIn next (P .tables)) (f .1) in
       let tables : OfEach TypedBody (P .tables)
-                 = typed-entries (FineBody k m) (λ i p g. wrongs-right (scopeOf k m false) noUse (λ e. absurd (false≢true e)) mostDepth false i p g)
+                 = typed-entries (FineBody k m) (λ i p g. wrongs-right (scopeOf k m false) noUse (no-uses Right k m) mostDepth false i p g)
                    next (P .tables) (w .bodies) (a .1) (b .1) in
-      let uses : RightUses (scopeOf k m true) (tableOf P) = λ e. right-table P tables in
+      let uses : OfUses Right (scopeOf k m true) (tableOf P) = of-tables Right TypedBody right-use P tables in
       ((wrongs-right (scopeOf k m true) (tableOf P) uses mostDepth false at (P .main) (w .main) (a .0), fault-none (fits (P .reads) (P .writes) (P .main)) at (b .0)), tables)
 
   pub faults : typingFaults P ≡ [] ↔ Typed P

@@ -1,5 +1,8 @@
+pub mod Acceptance
 pub mod Decoding
 pub mod Faults
+pub mod FieldsBelow
+pub mod FineLaws
 pub mod Lists
 pub mod MaskLaws
 pub mod ReadingLaws

@@ -1,0 +1,130 @@
+-- A book is accepted exactly when it meets document 01's layout, limits and typing: some policy that is a `Book`, written (`exactly`);
+-- the policy is the only one (`unique`), and it is the one that the bytes decode to (`accepted`).
+use Prim.Native.Nat.{ℕ, zero, suc, _+_, _<_, _≤_}
+use native.Mathlib.Omega.{arith}
+use mathlib.Core.Path.{_≡_, refl, sym, ap, _∙_, subst}
+use mathlib.Core.Bool.{Bool, true, false, _&&_}
+use mathlib.Core.Logic.{_↔_}
+use mathlib.Core.List.{List, [], _∷_}
+use lib.Dec.{leb, eqb}
+use lib.ListN.{length, getD}
+use borrow.Author.Tests.{leb-true, le-leb, eqb-true, eq-eqb}
+use Rattle.rules.specs.declared.Reading.{Reading}
+use Rattle.rules.specs.declared.Reading.the-variants.{Next, Wrong}
+use Rattle.rules.specs.declared.Refusal.{Refusal}
+use Rattle.rules.specs.declared.Refusal.the-variants.{BookLength, Counts, Lengths, EntryMasks, Form, Limits, Typing}
+use Rattle.rules.specs.declared.Sizes.{Sizes}
+use Rattle.rules.specs.declared.Verdict.{Verdict}
+use Rattle.rules.specs.declared.Verdict.the-variants.{Accepted, Refused}
+use Rattle.rules.specs.Parts.{parts, deep}
+use Rattle.rules.specs.Books.{mostFields, mostTables, mostBytes, mostParts, mostBeside, Entry, Policy, entries, writeBook, WellFormed, Limited, Typed, Book}
+use Rattle.rules.specs.Reading.{fieldsOf, tablesOf, bodyStart, readEntries, masksRight, mainOf, policyOf, typingFaults, unless, unlessWrong, unlessFault, sizesOf, verdict}
+use Rattle.rules.proofs.Decoding.{Bytes, and-was}
+use Rattle.rules.proofs.Whole.{Readable, whole-read, whole-reads}
+use Rattle.rules.proofs.Faults.{faults}
+
+-- ---- the tests, one after the other
+
+unless-was : (b : Bool) (r : Refusal) (v : Verdict) (z : Sizes) → unless b r v ≡ Accepted z → (b ≡ true) × (v ≡ Accepted z)
+unless-was true r v z q = (refl, q)
+unless-was false r v z q = let x : _≡_ {A = ℕ} 0 1 = cc in absurd (omega arith)
+
+unless-wrong-was : (x : Reading) (v : Verdict) (z : Sizes) → unlessWrong x v ≡ Accepted z → ((a : ℕ) × (x ≡ Next a)) × (v ≡ Accepted z)
+unless-wrong-was (Next a) v z q = ((a, refl), q)
+unless-wrong-was (Wrong a) v z q = let x : _≡_ {A = ℕ} 0 1 = cc in absurd (omega arith)
+
+unless-fault-was : (l : List ℕ) (v : Verdict) (z : Sizes) → unlessFault l v ≡ Accepted z → (l ≡ []) × (v ≡ Accepted z)
+unless-fault-was [] v z q = (refl, q)
+unless-fault-was (a ∷ l) v z q = let x : _≡_ {A = ℕ} 0 1 = cc in absurd (omega arith)
+
+and-is : (a b : Bool) → a ≡ true → b ≡ true → (a && b) ≡ true
+and-is a b h k = rw (h, k)
+
+-- what an accepting verdict has tested: 1 to 5, then 6, then 7
+pub record Tested (s : List ℕ) : Type 0 where
+  pub readable : Readable s
+  pub parts : parts (mainOf s) ≤ mostParts
+  pub deep : deep (mainOf s) ≤ mostBeside
+  pub typed : typingFaults (policyOf s) ≡ []
+
+module _ (s : List ℕ) where
+  tested-was : (z : Sizes) → verdict s ≡ Accepted z → Tested s × (z ≡ sizesOf s)
+  unfolding verdict
+  tested-was z q =
+      let t1 = unless-was _ BookLength _ z q in
+      let t2 = unless-was _ Counts _ z (t1 .1) in
+      let t3 = unless-was _ Lengths _ z (t2 .1) in
+      let t4 = unless-was _ EntryMasks _ z (t3 .1) in
+      let t5 = unless-wrong-was _ _ z (t4 .1) in
+      let t6 = unless-was _ Limits _ z (t5 .1) in
+      let t7 = unless-fault-was _ _ z (t6 .1) in
+      let b1 = and-was (leb 2 (length s)) (leb (length s) mostBytes) (t1 .0) in
+      let b2 = and-was (leb 1 (fieldsOf s)) _ (t2 .0) in
+      let b3 = and-was (leb (fieldsOf s) mostFields) (leb (tablesOf s) mostTables) (b2 .1) in
+      let b6 = and-was (leb (parts (mainOf s)) mostParts) (leb (deep (mainOf s)) mostBeside) (t6 .0) in
+      ( record {
+          readable = record {
+            bytes = (leb-true 2 (length s) (b1 .0), leb-true (length s) mostBytes (b1 .1));
+            fields = (leb-true 1 (fieldsOf s) (b2 .0), leb-true (fieldsOf s) mostFields (b3 .0));
+            tables = leb-true (tablesOf s) mostTables (b3 .1);
+            lengths = eqb-true (bodyStart s (suc (tablesOf s))) (length s) (t3 .0);
+            masks = t4 .0;
+            form = t5 .0;
+          };
+          parts = leb-true (parts (mainOf s)) mostParts (b6 .0);
+          deep = leb-true (deep (mainOf s)) mostBeside (b6 .1);
+          typed = t7 .0;
+        }
+      , (let e : sizesOf s ≡ z = cc in sym e) )
+
+  tested-is : Tested s → verdict s ≡ Accepted (sizesOf s)
+  unfolding verdict
+  tested-is t =
+      let r = t .readable in
+      rw
+      ( and-is (leb 2 (length s)) (leb (length s) mostBytes) (le-leb 2 (length s) (r .bytes .0)) (le-leb (length s) mostBytes (r .bytes .1))
+      , le-leb 1 (fieldsOf s) (r .fields .0)
+      , and-is (leb (fieldsOf s) mostFields) (leb (tablesOf s) mostTables) (le-leb (fieldsOf s) mostFields (r .fields .1)) (le-leb (tablesOf s) mostTables (r .tables))
+      , eq-eqb (bodyStart s (suc (tablesOf s))) (length s) (r .lengths)
+      , r .masks
+      , r .form .1
+      , and-is (leb (parts (mainOf s)) mostParts) (leb (deep (mainOf s)) mostBeside) (le-leb (parts (mainOf s)) mostParts (t .parts)) (le-leb (deep (mainOf s)) mostBeside (t .deep))
+      , t .typed )
+
+-- ---- acceptance
+
+pub accepted : (s : List ℕ) → Bytes s → (z : Sizes) → verdict s ≡ Accepted z → Book (policyOf s) × (s ≡ writeBook (policyOf s)) × (z ≡ sizesOf s)
+unfolding policyOf
+accepted s small z q =
+    let t = tested-was s z q in
+    let w = whole-read s small (t .0 .readable) in
+    ( record {
+        formed = w .0;
+        limited = record { parts = t .0 .parts; deep = t .0 .deep };
+        typed = faults (policyOf s) (w .0) .0 (t .0 .typed);
+      }
+    , w .1
+    , t .1 )
+
+pub written : (P : Policy) → Book P → verdict (writeBook P) ≡ Accepted (sizesOf (writeBook P))
+unfolding policyOf
+written P b =
+    let s : List ℕ = writeBook P in
+    let w = whole-reads P (b .formed) in
+    let main : mainOf s ≡ P .main = ap (λ (Q : Policy). Q .main) (w .1) in
+    tested-is s record {
+      readable = w .0;
+      parts = rw main (b .limited .parts);
+      deep = rw main (b .limited .deep);
+      typed = rw (w .1) (faults P (b .formed) .1 (b .typed));
+    }
+
+-- no two well-formed policies are written alike
+pub unique : (P Q : Policy) → WellFormed P → WellFormed Q → writeBook P ≡ writeBook Q → P ≡ Q
+unique P Q f g e = sym (whole-reads P f .1) ∙ ap policyOf e ∙ whole-reads Q g .1
+
+-- document 01: "A book is accepted exactly when it meets" its layout, limits and typing
+pub exactly : (s : List ℕ) → Bytes s → ((z : Sizes) × (verdict s ≡ Accepted z)) ↔ ((P : Policy) × Book P × (s ≡ writeBook P))
+exactly s small =
+    ( (λ a. (let w = accepted s small (a .0) (a .1) in (policyOf s, w .0, w .1)))
+    , (λ b. (sizesOf s, rw (b .2) (written (b .0) (b .1)))) )
