@@ -1,24 +1,24 @@
 -- A book is accepted exactly when it meets document 01's layout, limits and typing: some policy that is a `Book`, written (`exactly`);
 -- the policy is the only one (`unique`), and it is the one that the bytes decode to (`accepted`).
-use Prim.Native.Nat.{ℕ, zero, suc, _+_, _<_, _≤_}
+use Prim.Native.Nat.{ℕ, suc, _≤_}
 use native.Mathlib.Omega.{arith}
-use mathlib.Core.Path.{_≡_, refl, sym, ap, _∙_, subst}
+use mathlib.Core.Path.{_≡_, refl, sym, ap, _∙_}
 use mathlib.Core.Bool.{Bool, true, false, _&&_}
 use mathlib.Core.Logic.{_↔_}
 use mathlib.Core.List.{List, [], _∷_}
-use lib.Dec.{leb, eqb}
-use lib.ListN.{length, getD}
+use lib.Dec.{leb}
+use lib.ListN.{length}
 use borrow.Author.Tests.{leb-true, le-leb, eqb-true, eq-eqb}
 use Rattle.rules.specs.declared.Reading.{Reading}
 use Rattle.rules.specs.declared.Reading.the-variants.{Next, Wrong}
 use Rattle.rules.specs.declared.Refusal.{Refusal}
-use Rattle.rules.specs.declared.Refusal.the-variants.{BookLength, Counts, Lengths, EntryMasks, Form, Limits, Typing}
+use Rattle.rules.specs.declared.Refusal.the-variants.{BookLength, Counts, Lengths, EntryMasks, Limits}
 use Rattle.rules.specs.declared.Sizes.{Sizes}
 use Rattle.rules.specs.declared.Verdict.{Verdict}
-use Rattle.rules.specs.declared.Verdict.the-variants.{Accepted, Refused}
+use Rattle.rules.specs.declared.Verdict.the-variants.{Accepted}
 use Rattle.rules.specs.Parts.{parts, deep}
-use Rattle.rules.specs.Books.{mostFields, mostTables, mostBytes, mostParts, mostBeside, Entry, Policy, entries, writeBook, WellFormed, Limited, Typed, Book}
-use Rattle.rules.specs.Reading.{fieldsOf, tablesOf, bodyStart, readEntries, masksRight, mainOf, policyOf, typingFaults, unless, unlessWrong, unlessFault, sizesOf, verdict}
+use Rattle.rules.specs.Books.{mostFields, mostTables, mostBytes, mostParts, mostBeside, Policy, writeBook, WellFormed, Book}
+use Rattle.rules.specs.Reading.{fieldsOf, tablesOf, bodyStart, mainOf, policyOf, typingFaults, unless, unlessWrong, unlessFault, sizesOf, verdict}
 use Rattle.rules.proofs.Decoding.{Bytes, and-was}
 use Rattle.rules.proofs.Whole.{Readable, whole-read, whole-reads}
 use Rattle.rules.proofs.Faults.{faults}
@@ -41,16 +41,16 @@ and-is : (a b : Bool) → a ≡ true → b ≡ true → (a && b) ≡ true
 and-is a b h k = rw (h, k)
 
 -- what an accepting verdict has tested: 1 to 5, then 6, then 7
-pub record Tested (s : List ℕ) : Type 0 where
+pub record Passed (s : List ℕ) : Type 0 where
   pub readable : Readable s
   pub parts : parts (mainOf s) ≤ mostParts
   pub deep : deep (mainOf s) ≤ mostBeside
   pub typed : typingFaults (policyOf s) ≡ []
 
 module _ (s : List ℕ) where
-  tested-was : (z : Sizes) → verdict s ≡ Accepted z → Tested s × (z ≡ sizesOf s)
+  pub passed-was : (z : Sizes) → verdict s ≡ Accepted z → Passed s × (z ≡ sizesOf s)
   unfolding verdict
-  tested-was z q =
+  passed-was z q =
       let t1 = unless-was _ BookLength _ z q in
       let t2 = unless-was _ Counts _ z (t1 .1) in
       let t3 = unless-was _ Lengths _ z (t2 .1) in
@@ -77,9 +77,9 @@ module _ (s : List ℕ) where
         }
       , (let e : sizesOf s ≡ z = cc in sym e) )
 
-  tested-is : Tested s → verdict s ≡ Accepted (sizesOf s)
+  pub passed-is : Passed s → verdict s ≡ Accepted (sizesOf s)
   unfolding verdict
-  tested-is t =
+  passed-is t =
       let r = t .readable in
       rw
       ( and-is (leb 2 (length s)) (leb (length s) mostBytes) (le-leb 2 (length s) (r .bytes .0)) (le-leb (length s) mostBytes (r .bytes .1))
@@ -96,7 +96,7 @@ module _ (s : List ℕ) where
 pub accepted : (s : List ℕ) → Bytes s → (z : Sizes) → verdict s ≡ Accepted z → Book (policyOf s) × (s ≡ writeBook (policyOf s)) × (z ≡ sizesOf s)
 unfolding policyOf
 accepted s small z q =
-    let t = tested-was s z q in
+    let t = passed-was s z q in
     let w = whole-read s small (t .0 .readable) in
     ( record {
         formed = w .0;
@@ -112,18 +112,25 @@ written P b =
     let s : List ℕ = writeBook P in
     let w = whole-reads P (b .formed) in
     let main : mainOf s ≡ P .main = ap (λ (Q : Policy). Q .main) (w .1) in
-    tested-is s record {
+    passed-is s record {
       readable = w .0;
       parts = rw main (b .limited .parts);
       deep = rw main (b .limited .deep);
       typed = rw (w .1) (faults P (b .formed) .1 (b .typed));
     }
 
+-- k, m, n and D of the policy written
+pub written-sizes : (P : Policy) → WellFormed P
+    → sizesOf (writeBook P) ≡ record { fields = P .fields; tables = length (P .tables); parts = parts (P .main); deep = deep (P .main) }
+unfolding sizesOf policyOf writeBook
+written-sizes P f =
+    let main : mainOf (writeBook P) ≡ P .main = ap (λ (Q : Policy). Q .main) (whole-reads P f .1) in rw main
+
 -- no two well-formed policies are written alike
 pub unique : (P Q : Policy) → WellFormed P → WellFormed Q → writeBook P ≡ writeBook Q → P ≡ Q
 unique P Q f g e = sym (whole-reads P f .1) ∙ ap policyOf e ∙ whole-reads Q g .1
 
--- document 01: "A book is accepted exactly when it meets" its layout, limits and typing
+-- the bytes that are accepted are exactly the policies that meet layout, limits and typing, written
 pub exactly : (s : List ℕ) → Bytes s → ((z : Sizes) × (verdict s ≡ Accepted z)) ↔ ((P : Policy) × Book P × (s ≡ writeBook P))
 exactly s small =
     ( (λ a. (let w = accepted s small (a .0) (a .1) in (policyOf s, w .0, w .1)))

@@ -1,15 +1,15 @@
 -- A well-formed policy has no typing fault exactly if every body is right and fits (document 01, "Typing" and number 7).
-use Prim.Native.Nat.{ℕ, zero, suc, _+_, _<_, _≤_}
+use Prim.Native.Nat.{ℕ, zero, suc, _+_}
 use native.Mathlib.Omega.{arith}
-use mathlib.Core.Path.{_≡_, refl, sym, ap, _∙_, subst}
-use mathlib.Core.Bool.{Bool, true, false, cond, false≢true}
+use mathlib.Core.Path.{_≡_, refl}
+use mathlib.Core.Bool.{Bool, true, false, cond}
 use mathlib.Core.Logic.{_↔_}
 use mathlib.Core.List.{List, [], _∷_, _++_}
 use mathlib.Core.Option.{Option, none, some}
-use lib.ListN.{length, getD}
+use lib.ListN.{length}
 use Rattle.rules.specs.Parts.{Part, Id, Drop, Test, Set, Not, Sum, Seq, Beside, Table, Open, size}
 use Rattle.rules.specs.Typing.{rightBeside, fits, Right, wrongs}
-use Rattle.rules.specs.Books.{mostDepth, Entry, Policy, entries, bytesOf, firstBody, startIn, useOf, noEntry, tableOf, Scope, scopeOf, noUse, Fine, OfBody, OfEach, WellFormed, Typed}
+use Rattle.rules.specs.Books.{mostDepth, Entry, Policy, entries, bytesOf, firstBody, useOf, tableOf, Scope, scopeOf, noUse, Fine, OfBody, OfEach, WellFormed, Typed}
 use Rattle.rules.specs.Reading.{wrongBody, misfit, wrongsIn, misfitsIn, typingFaults}
 use Rattle.rules.proofs.Whole.{FineBody}
 use Rattle.rules.proofs.FineLaws.{OfUses, no-uses, of-tables}

@@ -1,15 +1,15 @@
 -- What a well-formed policy's parts keep to: only predicates under "not", fields below k, masks T and M within the k fields.
-use Prim.Native.Nat.{ℕ, zero, suc, _+_, _-_, _^_, _%_, _<_, _≤_}
+use Prim.Native.Nat.{ℕ, zero, suc, _^_, _<_, _≤_}
 use native.Mathlib.Omega.{arith}
 use native.Mathlib.Nat.{mod-eq-of-lt}
-use mathlib.Core.Path.{_≡_, refl, sym, ap, _∙_}
-use mathlib.Core.Bool.{Bool, true, false, _&&_, false≢true}
+use mathlib.Core.Path.{_≡_, sym, ap, _∙_}
+use mathlib.Core.Bool.{Bool, true, false, false≢true}
 use mathlib.Core.List.{List, [], _∷_}
 use mathlib.Core.Option.{Option, none, some}
 use lib.Bits.{bitAnd, bitOr, or-lt, and-mask}
 use lib.ListN.{length, getD}
 use lib.Pow.{pow-lt, pow-pos}
-use Rattle.rules.specs.Masks.{has, field, allFields}
+use Rattle.rules.specs.Masks.{has, allFields}
 use Rattle.rules.specs.Parts.{Part, Id, Drop, Test, Set, Not, Sum, Seq, Beside, Table, Open, Predicate, Formed}
 use Rattle.rules.specs.Typing.{tested, written}
 use Rattle.rules.specs.Books.{mostDepth, Entry, Policy, entries, useOf, noEntry, tableOf, Scope, scopeOf, noUse, Fine, masksFit, OfBody, OfEach, WellFormed}

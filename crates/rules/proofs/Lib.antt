@@ -1,4 +1,5 @@
 pub mod Acceptance
+pub mod AcceptedBooks
 pub mod Decoding
 pub mod Faults
 pub mod FieldsBelow

@@ -3,13 +3,12 @@
 use Prim.Native.Nat.{ℕ, zero, suc, _+_, _*_, _/_, _%_, _<_, _≤_}
 use native.Mathlib.Omega.{arith}
 use native.Mathlib.Nat.{add-zero}
-use mathlib.Core.Path.{_≡_, refl, sym, ap, _∙_, subst}
+use mathlib.Core.Path.{_≡_, refl, sym, ap, _∙_}
 use mathlib.Core.List.{List, [], _∷_, _++_, append-assoc, append-nil}
-use mathlib.Core.Option.{Option, none, some}
 use lib.ListN.{length, getD, drop, length-append}
 use lib.Seq.{drop-cons, drop-drop, drop-append-seam, drop-length}
 use Rattle.rules.specs.Books.{Entry, Policy, entries, bytesOf, contents, bodies, writeBook, firstBody, startIn, noEntry}
-use Rattle.rules.specs.Reading.{numberAt, fieldsOf, tablesOf, lengthAt, readsAt, writesAt, bodyStart}
+use Rattle.rules.specs.Reading.{fieldsOf, tablesOf, lengthAt, readsAt, writesAt, bodyStart}
 use Rattle.rules.proofs.Decoding.{Bytes, drop-head}
 
 -- e is what s says as entry x: its masks, its length, and its body's bytes where they belong

@@ -1,20 +1,19 @@
 -- The book level of acceptance: bytes that pass the tests 1 to 5 are the well-formed policy that they decode to, written (`whole-read`);
 -- and a well-formed policy, written, passes them and decodes to itself (`whole-reads`).
-use Prim.Native.Nat.{ℕ, zero, suc, _+_, _*_, _/_, _%_, _^_, _<_, _≤_}
+use Prim.Native.Nat.{ℕ, zero, suc, _+_, _<_, _≤_}
 use native.Mathlib.Omega.{arith}
 use native.Mathlib.Nat.{zero-add}
-use mathlib.Core.Path.{_≡_, refl, sym, ap, _∙_, subst}
-use mathlib.Core.Bool.{Bool, true, false, cond, _&&_, false≢true}
+use mathlib.Core.Path.{_≡_, refl, sym, ap, _∙_}
+use mathlib.Core.Bool.{Bool, true, false, cond, false≢true}
 use mathlib.Core.List.{List, [], _∷_, _++_}
 use mathlib.Core.Option.{Option, none, some}
 use lib.Dec.{eqb}
 use lib.ListN.{length, getD, drop, take}
-use borrow.Author.Tests.{eq-eqb, ne-eqb, eqb-true, eqb-false}
-use Rattle.rules.specs.declared.Reading.{Reading}
-use Rattle.rules.specs.declared.Reading.the-variants.{Next, Wrong}
-use Rattle.rules.specs.Parts.{Part, Id, Drop, Test, Set, Not, Sum, Seq, Beside, Table, Open, write, size}
+use borrow.Author.Tests.{eq-eqb, ne-eqb, eqb-true}
+use Rattle.rules.specs.declared.Reading.the-variants.{Next}
+use Rattle.rules.specs.Parts.{Part, Id, Drop, Test, Set, Not, Sum, Seq, Beside, Table, Open, size}
 use Rattle.rules.specs.Books.{mostFields, mostTables, mostBytes, mostDepth, Entry, Policy, entries, bytesOf, writeBook, firstBody, startIn, useOf, noEntry, tableOf, Scope, scopeOf, noUse, Fine, masksFit, OfBody, OfEach, WellFormed}
-use Rattle.rules.specs.Reading.{andThen, readBody, fieldsOf, tablesOf, lengthAt, readsAt, writesAt, bodyStart, readEntry, readEntries, masksRight, partAt, bodyAt, useAt, mainOf, tablesFrom, policyOf}
+use Rattle.rules.specs.Reading.{readBody, fieldsOf, tablesOf, lengthAt, readsAt, writesAt, bodyStart, readEntry, readEntries, masksRight, partAt, bodyAt, useAt, mainOf, tablesFrom, policyOf}
 use Rattle.rules.proofs.Decoding.{Bytes, size-positive, Named, populated, unpopulated, Names, then-was, and-was, body-read, body-reads}
 use Rattle.rules.proofs.Standing.{Stands, AllStand, start-stands, book-stands, written-stands}
 

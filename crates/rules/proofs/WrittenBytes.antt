@@ -1,17 +1,17 @@
 -- A well-formed policy is written in bytes.
-use Prim.Native.Nat.{ℕ, zero, suc, _+_, _*_, _/_, _%_, _^_, _<_, _≤_}
+use Prim.Native.Nat.{ℕ, zero, suc, _+_, _/_, _%_, _^_, _<_, _≤_}
 use native.Mathlib.Omega.{arith}
-use mathlib.Core.Path.{_≡_, sym, ap}
+use mathlib.Core.Path.{_≡_}
 use mathlib.Core.Bool.{Bool, true, false}
 use mathlib.Core.List.{List, [], _∷_, _++_}
 use mathlib.Core.Option.{Option, none, some}
 use lib.Dec.{lit≤}
-use lib.ListN.{length, getD, length-append}
+use lib.ListN.{length, length-append}
 use lib.Pow.{pow-mono}
 use borrow.Author.Tests.{ltb-true}
 use Rattle.rules.specs.Masks.{apart, inFields}
 use Rattle.rules.specs.Parts.{Part, Id, Drop, Test, Set, Not, Sum, Seq, Beside, Table, Open, write}
-use Rattle.rules.specs.Books.{mostFields, mostTables, mostBytes, Entry, Policy, entries, bytesOf, contents, bodies, writeBook, Scope, scopeOf, Fine, masksFit, OfBody, OfEach, WellFormed}
+use Rattle.rules.specs.Books.{mostFields, mostTables, Entry, Policy, entries, bytesOf, contents, bodies, writeBook, Scope, scopeOf, Fine, masksFit, OfBody, OfEach, WellFormed}
 use Rattle.rules.proofs.Decoding.{Bytes, and-was}
 use Rattle.rules.proofs.Whole.{FineBody}
 
