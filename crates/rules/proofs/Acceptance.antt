@@ -37,8 +37,9 @@ unless-fault-was : (l : List ℕ) (v : Verdict) (z : Sizes) → unlessFault l v 
 unless-fault-was [] v z q = (refl, q)
 unless-fault-was (a ∷ l) v z q = let x : _≡_ {A = ℕ} 0 1 = cc in absurd (omega arith)
 
-and-is : (a b : Bool) → a ≡ true → b ≡ true → (a && b) ≡ true
-and-is a b h k = rw (h, k)
+-- two bounds tested together
+bounds : (a b c d : ℕ) → a ≤ b → c ≤ d → (leb a b && leb c d) ≡ true
+bounds a b c d h k = rw (le-leb a b h) (le-leb c d k)
 
 -- what an accepting verdict has tested: 1 to 5, then 6, then 7
 pub record Passed (s : List ℕ) : Type 0 where
@@ -61,8 +62,8 @@ module _ (s : List ℕ) where
       let b1 = and-was (leb 2 (length s)) (leb (length s) mostBytes) (t1 .0) in
       let b2 = and-was (leb 1 (fieldsOf s)) _ (t2 .0) in
       let b3 = and-was (leb (fieldsOf s) mostFields) (leb (tablesOf s) mostTables) (b2 .1) in
-      let b6 = and-was (leb (parts (mainOf s)) mostParts) (leb (deep (mainOf s)) mostBeside) (t6 .0) in
-      ( record {
+      let b6 = and-was (leb (parts (mainOf s)) mostParts) (leb (deep (mainOf s)) mostBeside) (t6 .0) in (
+        record {
           readable = record {
             bytes = (leb-true 2 (length s) (b1 .0), leb-true (length s) mostBytes (b1 .1));
             fields = (leb-true 1 (fieldsOf s) (b2 .0), leb-true (fieldsOf s) mostFields (b3 .0));
@@ -74,37 +75,41 @@ module _ (s : List ℕ) where
           parts = leb-true (parts (mainOf s)) mostParts (b6 .0);
           deep = leb-true (deep (mainOf s)) mostBeside (b6 .1);
           typed = t7 .0;
-        }
-      , (let e : sizesOf s ≡ z = cc in sym e) )
+        },
+        (let e : sizesOf s ≡ z = cc in sym e),
+      )
 
   pub passed-is : Passed s → verdict s ≡ Accepted (sizesOf s)
   unfolding verdict
   passed-is t =
       let r = t .readable in
-      rw
-      ( and-is (leb 2 (length s)) (leb (length s) mostBytes) (le-leb 2 (length s) (r .bytes .0)) (le-leb (length s) mostBytes (r .bytes .1))
-      , le-leb 1 (fieldsOf s) (r .fields .0)
-      , and-is (leb (fieldsOf s) mostFields) (leb (tablesOf s) mostTables) (le-leb (fieldsOf s) mostFields (r .fields .1)) (le-leb (tablesOf s) mostTables (r .tables))
-      , eq-eqb (bodyStart s (suc (tablesOf s))) (length s) (r .lengths)
-      , r .masks
-      , r .form .1
-      , and-is (leb (parts (mainOf s)) mostParts) (leb (deep (mainOf s)) mostBeside) (le-leb (parts (mainOf s)) mostParts (t .parts)) (le-leb (deep (mainOf s)) mostBeside (t .deep))
-      , t .typed )
+      rw (
+        bounds 2 (length s) (length s) mostBytes (r .bytes .0) (r .bytes .1),
+        le-leb 1 (fieldsOf s) (r .fields .0),
+        bounds (fieldsOf s) mostFields (tablesOf s) mostTables (r .fields .1) (r .tables),
+        eq-eqb (bodyStart s (suc (tablesOf s))) (length s) (r .lengths),
+        r .masks,
+        r .form .1,
+        bounds (parts (mainOf s)) mostParts (deep (mainOf s)) mostBeside (t .parts) (t .deep),
+        t .typed,
+      )
 
 -- ---- acceptance
 
-pub accepted : (s : List ℕ) → Bytes s → (z : Sizes) → verdict s ≡ Accepted z → Book (policyOf s) × (s ≡ writeBook (policyOf s)) × (z ≡ sizesOf s)
+pub accepted : (s : List ℕ) → Bytes s → (z : Sizes) → verdict s ≡ Accepted z
+    → Book (policyOf s) × (s ≡ writeBook (policyOf s)) × (z ≡ sizesOf s)
 unfolding policyOf
 accepted s small z q =
     let t = passed-was s z q in
-    let w = whole-read s small (t .0 .readable) in
-    ( record {
+    let w = whole-read s small (t .0 .readable) in (
+      record {
         formed = w .0;
         limited = record { parts = t .0 .parts; deep = t .0 .deep };
         typed = faults (policyOf s) (w .0) .0 (t .0 .typed);
-      }
-    , w .1
-    , t .1 )
+      },
+      w .1,
+      t .1,
+    )
 
 pub written : (P : Policy) → Book P → verdict (writeBook P) ≡ Accepted (sizesOf (writeBook P))
 unfolding policyOf
@@ -132,6 +137,7 @@ unique P Q f g e = sym (whole-reads P f .1) ∙ ap policyOf e ∙ whole-reads Q 
 
 -- the bytes that are accepted are exactly the policies that meet layout, limits and typing, written
 pub exactly : (s : List ℕ) → Bytes s → ((z : Sizes) × (verdict s ≡ Accepted z)) ↔ ((P : Policy) × Book P × (s ≡ writeBook P))
-exactly s small =
-    ( (λ a. (let w = accepted s small (a .0) (a .1) in (policyOf s, w .0, w .1)))
-    , (λ b. (sizesOf s, rw (b .2) (written (b .0) (b .1)))) )
+exactly s small = (
+  (λ a. (let w = accepted s small (a .0) (a .1) in (policyOf s, w .0, w .1))),
+  (λ b. (sizesOf s, rw (b .2) (written (b .0) (b .1)))),
+)

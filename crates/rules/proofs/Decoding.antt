@@ -136,13 +136,21 @@ module _ (s : List ℕ) (c : Scope) (named : ℕ → Part) (d : ℕ) (pred : Boo
   -- what reading a part tells: the place after it, its bytes, and that it is fine
   abbrev pub Read : Type 0
   Read =
-      (after s d at ≡ e) × (drop at s ≡ write (partAt s named d at) ++ drop e s) × Fine c named d pred (partAt s named d at) × (e ≤ length s)
+      (after s d at ≡ e) × (drop at s ≡ write (partAt s named d at) ++ drop e s)
+      × Fine c named d pred (partAt s named d at) × (e ≤ length s)
 
   -- it ends its size after its place
   pub read-end : Read → e ≡ at + size (partAt s named d at)
   read-end g =
-      omega (arith, g .3, size-positive (partAt s named d at), ap length (g .1), length-drop at s, length-drop e s
-      , length-append (write (partAt s named d at)) (drop e s))
+      omega (
+        arith,
+        g .3,
+        size-positive (partAt s named d at),
+        ap length (g .1),
+        length-drop at s,
+        length-drop e s,
+        length-append (write (partAt s named d at)) (drop e s),
+      )
 
 module _ (s : List ℕ) (small : Bytes s) (c : Scope) (named : ℕ → Part) (names : Names c named) where
   -- a part with a code that stands, over operands that fit and fine parts, is written as its bytes, and is fine
@@ -204,13 +212,15 @@ module _ (s : List ℕ) (small : Bytes s) (c : Scope) (named : ℕ → Part) (na
       let w = then-was (f b) (readTimes 1 f) e q in
       let v = then-was (f (w .0)) (λ x. Next x) e (w .2) in
       let g : Read s c named d pred b (w .0) = ih b (w .0) (w .1) in
-      let h : Read s c named d pred (after s d b) e = subst (λ (x : ℕ). Read s c named d pred x e) (sym (g .0)) (ih (w .0) e (v .1 ∙ v .2)) in
-      let l : List ℕ = write (partAt s named d b) in
-      ( h .0
-      , g .1 ∙ ap (λ (x : ℕ). l ++ drop x s) (sym (g .0)) ∙ ap (λ (x : List ℕ). l ++ x) (h .1)
-        ∙ sym (append-assoc l (write (partAt s named d (after s d b))) (drop e s))
-      , (g .2, h .2)
-      , λ le. h .3 )
+      let h : Read s c named d pred (after s d b) e
+      = subst (λ (x : ℕ). Read s c named d pred x e) (sym (g .0)) (ih (w .0) e (v .1 ∙ v .2)) in
+      let l : List ℕ = write (partAt s named d b) in (
+        h .0,
+        g .1 ∙ ap (λ (x : ℕ). l ++ drop x s) (sym (g .0)) ∙ ap (λ (x : List ℕ). l ++ x) (h .1)
+            ∙ sym (append-assoc l (write (partAt s named d (after s d b))) (drop e s)),
+        (g .2, h .2),
+        λ le. h .3,
+      )
   parts-read d pred f ih (suc (suc (suc n))) b e le q = absurd (omega arith)
 
   -- a part from its code, operands and parts
@@ -222,19 +232,20 @@ module _ (s : List ℕ) (small : Bytes s) (c : Scope) (named : ℕ → Part) (na
   part-read d pred at b e code is lt st dr o w =
       let b′ : ℕ = at + 1 + operandsOf code in
       let w′ : PartsRead d (eqb code 4 || pred) (partsOf code) b′ e
-             = subst (λ (x : ℕ). PartsRead d (eqb code 4 || pred) (partsOf code) x e) (o .0) w in
+      = subst (λ (x : ℕ). PartsRead d (eqb code 4 || pred) (partsOf code) x e) (o .0) w in
       let l : Part = partAt s named d b′ in
       let r : Part = partAt s named d (after s d b′) in
       let os : List ℕ = bytes s (at + 1) (operandsOf code) in
       let done : Built d pred at l r code = built-right d at pred l r code st (o .2) (w′ .2) in
-      rw is
-      ( rw (lt-ltb at (length s) lt) (w′ .0)
-      , dr ∙ ap (λ (x : List ℕ). code ∷ x)
-          (o .1 ∙ ap (λ (x : ℕ). os ++ drop x s) (o .0) ∙ ap (λ (x : List ℕ). os ++ x) (w′ .1)
-          ∙ sym (append-assoc os (partBytes (partsOf code) (write l) (write r)) (drop e s)))
-        ∙ ap (λ (x : List ℕ). x ++ drop e s) (sym (done .0))
-      , done .1
-      , w .3 (o .3 (omega arith)) )
+      rw is (
+        rw (lt-ltb at (length s) lt) (w′ .0),
+        dr ∙ ap (λ (x : List ℕ). code ∷ x)
+            (o .1 ∙ ap (λ (x : ℕ). os ++ drop x s) (o .0) ∙ ap (λ (x : List ℕ). os ++ x) (w′ .1)
+            ∙ sym (append-assoc os (partBytes (partsOf code) (write l) (write r)) (drop e s)))
+            ∙ ap (λ (x : List ℕ). x ++ drop e s) (sym (done .0)),
+        done .1,
+        w .3 (o .3 (omega arith)),
+      )
 
   pub read : (d : ℕ) (pred : Bool) (at e : ℕ) → readPart s c d pred at ≡ Next e → Read s c named d pred at e
   unfolding readPart
@@ -316,17 +327,19 @@ module _ (s : List ℕ) where
         × (partAt s named (suc d) at ≡ built s named at code (partAt s named d b) (partAt s named d (after s d b)))
         × (after s (suc d) at ≡ skip (partsOf code) (after s d) b) × (drop b s ≡ rest) × (drop (at + 1) s ≡ bs ++ rest)
 
-    reads-head : (d : ℕ) (pred : Bool) (at code : ℕ) (bs rest : List ℕ) → drop at s ≡ code ∷ (bs ++ rest) → stands (c .main) pred code ≡ true
-        → length bs ≡ operandsOf code → Fitting (operandFits (c .fields) (c .tables) code) 0 bs → HeadRead d pred at code bs rest
+    reads-head : (d : ℕ) (pred : Bool) (at code : ℕ) (bs rest : List ℕ) → drop at s ≡ code ∷ (bs ++ rest)
+        → stands (c .main) pred code ≡ true → length bs ≡ operandsOf code → Fitting (operandFits (c .fields) (c .tables) code) 0 bs
+        → HeadRead d pred at code bs rest
     unfolding readPart partAt after
     reads-head d pred at code bs rest e st len o =
         let ok : ℕ → ℕ → Bool = operandFits (c .fields) (c .tables) code in
         let h = drop-head s at code (bs ++ rest) e in
         let is : ℕ → Bool = stands (c .main) pred in
         let n : Next (at + 1) ≡ byteIf s is at = byte-next s is at (h .0) (ap is (h .1) ∙ st) in
-        let g : (readOperands s ok (operandsOf code) 0 (at + 1) ≡ Next (at + 1 + operandsOf code)) × (drop (at + 1 + operandsOf code) s ≡ rest)
-              = subst (λ (x : ℕ). (readOperands s ok x 0 (at + 1) ≡ Next (at + 1 + x)) × (drop (at + 1 + x) s ≡ rest)) len
-                (reads-operands ok bs 0 (at + 1) rest (h .2) o) in
+        let b : ℕ = at + 1 + operandsOf code in
+        let g : (readOperands s ok (operandsOf code) 0 (at + 1) ≡ Next b) × (drop b s ≡ rest)
+        = subst (λ (x : ℕ). (readOperands s ok x 0 (at + 1) ≡ Next (at + 1 + x)) × (drop (at + 1 + x) s ≡ rest)) len
+        (reads-operands ok bs 0 (at + 1) rest (h .2) o) in
         (rw (← n, h .1, g .0), rw (h .1), rw (lt-ltb at (length s) (h .0), h .1), g .1, h .2)
 
     reads-none : (d : ℕ) (pred : Bool) (at code : ℕ) (bs rest : List ℕ) (p : Part) → partsOf code ≡ 0 → size p ≡ 1 + operandsOf code
@@ -366,7 +379,8 @@ module _ (s : List ℕ) where
         → drop at s ≡ h (write p ++ (write q ++ rest))
     append-under h at p q rest e = e ∙ ap h (append-assoc (write p) (write q) rest)
 
-    pub reads : (d : ℕ) (pred : Bool) (at : ℕ) (p : Part) (rest : List ℕ) → Fine c named d pred p → drop at s ≡ write p ++ rest → Reads d pred at p rest
+    pub reads : (d : ℕ) (pred : Bool) (at : ℕ) (p : Part) (rest : List ℕ) → Fine c named d pred p
+        → drop at s ≡ write p ++ rest → Reads d pred at p rest
     unfolding Fine write built stands operandFits
     reads zero pred at p rest f e = absurd f
     reads (suc d) pred at Id rest f e = reads-none d pred at 0 [] rest Id refl refl (reads-head d pred at 0 [] rest e refl refl tt) refl
@@ -376,7 +390,8 @@ module _ (s : List ℕ) where
         let w = value-of s at i v rest (a .4) in
         reads-none d pred at 2 (i ∷ v / 256 ∷ v % 256 ∷ []) rest (Test i v) refl refl a (rw (w .0, w .1))
     reads (suc d) pred at (Set i v) rest f e =
-        let a = reads-head d pred at 3 (i ∷ v / 256 ∷ v % 256 ∷ []) rest e (ap not (f .0)) refl (lt-ltb i (c .fields) (f .1), (refl, (refl, tt))) in
+        let a = reads-head d pred at 3 (i ∷ v / 256 ∷ v % 256 ∷ []) rest e (ap not (f .0)) refl
+        (lt-ltb i (c .fields) (f .1), (refl, (refl, tt))) in
         let w = value-of s at i v rest (a .4) in
         reads-none d pred at 3 (i ∷ v / 256 ∷ v % 256 ∷ []) rest (Set i v) refl refl a (rw (w .0, w .1))
     reads (suc d) pred at (Not p) rest f e =
@@ -386,18 +401,21 @@ module _ (s : List ℕ) where
         subst (ReadsTo (suc d) pred at (Not p) rest) n (a .0 ∙ rw (l .0), a .1 ∙ rw (l .1), a .2 ∙ rw (l .2), l .3)
     reads (suc d) pred at (Sum p q) rest f e =
         let a = reads-head d pred at 5 [] (write p ++ (write q ++ rest)) (append-under (λ l. 5 ∷ l) at p q rest e) refl refl tt in
-        reads-two d pred at 5 [] Sum p q rest refl (omega arith) a (λ x y. refl) (λ b r h. reads d pred b p r (f .0) h) (λ b r h. reads d pred b q r (f .1) h)
+        reads-two d pred at 5 [] Sum p q rest refl (omega arith) a (λ x y. refl)
+        (λ b r h. reads d pred b p r (f .0) h) (λ b r h. reads d pred b q r (f .1) h)
     reads (suc d) pred at (Seq p q) rest f e =
         let a = reads-head d pred at 6 [] (write p ++ (write q ++ rest)) (append-under (λ l. 6 ∷ l) at p q rest e) refl refl tt in
-        reads-two d pred at 6 [] Seq p q rest refl (omega arith) a (λ x y. refl) (λ b r h. reads d pred b p r (f .0) h) (λ b r h. reads d pred b q r (f .1) h)
+        reads-two d pred at 6 [] Seq p q rest refl (omega arith) a (λ x y. refl)
+        (λ b r h. reads d pred b p r (f .0) h) (λ b r h. reads d pred b q r (f .1) h)
     reads (suc d) pred at (Beside i j p q) rest f e =
         let k : ℕ = 2 ^ c .fields in
         let a = reads-head d pred at 7 (i ∷ j ∷ []) (write p ++ (write q ++ rest)) (append-under (λ l. 7 ∷ i ∷ j ∷ l) at p q rest e)
-                (ap not (f .0)) refl (lt-ltb i k (f .1), (lt-ltb j k (f .2), tt)) in
+        (ap not (f .0)) refl (lt-ltb i k (f .1), (lt-ltb j k (f .2), tt)) in
         let w = masks-of s at i j (write p ++ (write q ++ rest)) (a .4) in
         reads-two d pred at 7 (i ∷ j ∷ []) (Beside i j) p q rest refl (omega arith) a (λ x y. rw (w .0, w .1))
         (λ b r h. reads d pred b p r (f .3) h) (λ b r h. reads d pred b q r (f .4) h)
-    reads (suc d) pred at (Table x r w start p) rest f e = reads-use d pred at x rest (Table x r w start p) refl (f .0) (f .1) (f .2) (f .3) (f .4) e
+    reads (suc d) pred at (Table x r w start p) rest f e =
+        reads-use d pred at x rest (Table x r w start p) refl (f .0) (f .1) (f .2) (f .3) (f .4) e
     reads (suc d) pred at (Open x r w) rest f e = reads-use d pred at x rest (Open x r w) refl (f .0) (f .1) (f .2) (f .3) (f .4) e
 
 -- what is written at a place ends within the book
@@ -415,7 +433,8 @@ drop-take (suc a) n [] = ap (λ (k : ℕ). drop (suc a) (take k [])) (suc-add a 
 drop-take (suc a) n (x ∷ s) = ap (λ (k : ℕ). drop (suc a) (take k (x ∷ s))) (suc-add a n) ∙ drop-take a n s
 
 -- a body that is read is one part, and ends where s ends
-body-was : (s : List ℕ) (c : Scope) (start e : ℕ) → readBody s c start ≡ Next e → (readPart s c mostDepth false start ≡ Next e) × (e ≡ length s)
+body-was : (s : List ℕ) (c : Scope) (start e : ℕ) → readBody s c start ≡ Next e
+    → (readPart s c mostDepth false start ≡ Next e) × (e ≡ length s)
 unfolding readBody
 body-was s c start e q = go (then-was (readPart s c mostDepth false start) (λ a. cond (eqb a (length s)) (Next a) (Wrong a)) e q)
   where
@@ -438,20 +457,20 @@ module _ (s : List ℕ) (small : Bytes s) (c : Scope) (named : ℕ → Part) (na
       let z : e ≡ at + size p = read-end f c named d pred at e g in
       let le : at ≤ length f = omega (arith, g .3) in
       let w : drop at s ≡ write p ++ drop e s
-            = drop-front s at n le ∙ ap (λ (x : List ℕ). x ++ drop n s) (g .1) ∙ append-assoc (write p) (drop e f) (drop n s)
-              ∙ ap (λ (x : List ℕ). write p ++ x) (sym (drop-front s e n (g .3))) in
+      = drop-front s at n le ∙ ap (λ (x : List ℕ). x ++ drop n s) (g .1) ∙ append-assoc (write p) (drop e f) (drop n s)
+      ∙ ap (λ (x : List ℕ). write p ++ x) (sym (drop-front s e n (g .3))) in
       let h = reads s c named d pred at p (drop e s) (g .2) w in
       ((h .2 ∙ sym z, rw (h .1) w, rw (h .1) (g .2), omega (arith, written-within s at p (drop e s) w)), sym (h .1))
 
   -- the body between two places of s, if it is read: one fine part, written there
   pub body-read : (start e a : ℕ) → e ≤ length s → readBody (take e s) c start ≡ Next a
       → (a ≡ e) × (e ≡ start + size (partAt s named mostDepth start))
-        × (drop start s ≡ write (partAt s named mostDepth start) ++ drop e s) × Fine c named mostDepth false (partAt s named mostDepth start)
+      × (drop start s ≡ write (partAt s named mostDepth start) ++ drop e s) × Fine c named mostDepth false (partAt s named mostDepth start)
   body-read start e a le q =
       let w = body-was (take e s) c start a q in
       let z : a ≡ e = w .1 ∙ length-take-le e s le in
       let g : Read s c named mostDepth false start e
-            = subst (Read s c named mostDepth false start) z (read-front e mostDepth false start a (w .0) .0) in
+      = subst (Read s c named mostDepth false start) z (read-front e mostDepth false start a (w .0) .0) in
       (z, read-end s c named mostDepth false start e g, g .1, g .2)
 
 -- and a fine part that is written between two places is read there as a body
@@ -462,7 +481,7 @@ body-reads s c named start e p rest f w z =
     let in-s : start + size p + length rest ≡ length s = written-within s start p rest w in
     let len : length (take e s) ≡ e = length-take-le e s (omega arith) in
     let front : drop start (take e s) ≡ write p ++ []
-              = ap (λ (x : ℕ). drop start (take x s)) z ∙ drop-take start (size p) s ∙ ap (take (size p)) w
-                ∙ take-append-seam (write p) rest ∙ sym (append-nil (write p)) in
+    = ap (λ (x : ℕ). drop start (take x s)) z ∙ drop-take start (size p) s ∙ ap (take (size p)) w
+    ∙ take-append-seam (write p) rest ∙ sym (append-nil (write p)) in
     let h = reads (take e s) c named mostDepth false start p [] f front in
     (body-whole (take e s) c start e (h .0 ∙ ap (λ (a : ℕ). Next a) (sym z)) (sym len), reads s c named mostDepth false start p rest f w .1)

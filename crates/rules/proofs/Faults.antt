@@ -25,7 +25,8 @@ fault-none false at e = let z : _≡_ {A = ℕ} 0 1 = cc in absurd (omega arith)
 -- ---- one body
 
 module _ (c : Scope) (named : ℕ → Part) (uses : OfUses Right c named) where
-  right-two : (p q : Part) (a b : ℕ) → wrongs a p ++ wrongs b q ≡ [] → (wrongs a p ≡ [] → Right p) → (wrongs b q ≡ [] → Right q) → Right p × Right q
+  right-two : (p q : Part) (a b : ℕ) → wrongs a p ++ wrongs b q ≡ [] → (wrongs a p ≡ [] → Right p) → (wrongs b q ≡ [] → Right q)
+      → Right p × Right q
   right-two p q a b e f g = let w = append-empty (wrongs a p) (wrongs b q) e in (f (w .0), g (w .1))
 
   wrongs-right : (d : ℕ) (pred : Bool) (at : ℕ) (p : Part) → Fine c named d pred p → wrongs at p ≡ [] → Right p
@@ -42,7 +43,8 @@ module _ (c : Scope) (named : ℕ → Part) (uses : OfUses Right c named) where
       right-two p q (at + 1) (at + 1 + size p) e (wrongs-right d pred (at + 1) p (f .0)) (wrongs-right d pred (at + 1 + size p) q (f .1))
   wrongs-right (suc d) pred at (Beside wp wq p q) f e =
       let w = append-empty (cond (rightBeside wp wq p q) [] (at ∷ [])) (wrongs (at + 3) p ++ wrongs (at + 3 + size p) q) e in
-      let r = right-two p q (at + 3) (at + 3 + size p) (w .1) (wrongs-right d pred (at + 3) p (f .3)) (wrongs-right d pred (at + 3 + size p) q (f .4)) in
+      let b : ℕ = at + 3 + size p in
+      let r = right-two p q (at + 3) b (w .1) (wrongs-right d pred (at + 3) p (f .3)) (wrongs-right d pred b q (f .4)) in
       (fault-none (rightBeside wp wq p q) at (w .0), r .0, r .1)
   wrongs-right (suc d) pred at (Table x r w start p) f e = rw (f .4) at (uses (f .1) x (f .2) (f .3))
   wrongs-right (suc d) pred at (Open x r w) f e = tt
@@ -63,19 +65,23 @@ right-wrongs at (Open x r w) h = refl
 -- ---- the bodies
 
 -- a body is right and fits its entry's masks
+abbrev TypedAs : Entry → Option Part → Type 0
+TypedAs e b = OfBody (λ p. Right p × (fits (e .reads) (e .writes) p ≡ true)) b
+
 abbrev pub TypedBody : Entry → Type 0
-TypedBody e = OfBody (λ p. Right p × (fits (e .reads) (e .writes) p ≡ true)) (e .body)
+TypedBody e = TypedAs e (e .body)
 
 module _ (F : Part → Type 0) (right : (at : ℕ) (p : Part) → F p → wrongs at p ≡ [] → Right p) where
   typed-entry : (at : ℕ) (e : Entry) → OfBody F (e .body) → wrongBody at (e .body) ≡ [] → misfit at e (e .body) ≡ [] → TypedBody e
   unfolding wrongBody misfit
   typed-entry at e = go (e .body)
     where
-      go : (b : Option Part) → OfBody F b → wrongBody at b ≡ [] → misfit at e b ≡ [] → OfBody (λ p. Right p × (fits (e .reads) (e .writes) p ≡ true)) b
+      go : (b : Option Part) → OfBody F b → wrongBody at b ≡ [] → misfit at e b ≡ [] → TypedAs e b
       go none f h k = tt
       go (some p) f h k = (right at p f h, fault-none (fits (e .reads) (e .writes) p) at k)
 
-  typed-entries : (at : ℕ) (es : List Entry) → OfEach (λ e. OfBody F (e .body)) es → wrongsIn at es ≡ [] → misfitsIn at es ≡ [] → OfEach TypedBody es
+  typed-entries : (at : ℕ) (es : List Entry) → OfEach (λ e. OfBody F (e .body)) es → wrongsIn at es ≡ [] → misfitsIn at es ≡ []
+      → OfEach TypedBody es
   unfolding wrongsIn misfitsIn
   typed-entries at [] f h k = tt
   typed-entries at (e ∷ es) f h k =
@@ -88,7 +94,7 @@ entry-typed : (at : ℕ) (e : Entry) → TypedBody e → (wrongBody at (e .body)
 unfolding wrongBody misfit
 entry-typed at e = go (e .body)
   where
-    go : (b : Option Part) → OfBody (λ p. Right p × (fits (e .reads) (e .writes) p ≡ true)) b → (wrongBody at b ≡ []) × (misfit at e b ≡ [])
+    go : (b : Option Part) → TypedAs e b → (wrongBody at b ≡ []) × (misfit at e b ≡ [])
     go none h = (refl, refl)
     go (some p) h = (right-wrongs at p (h .0), rw (h .1))
 
@@ -105,7 +111,7 @@ entries-typed at (e ∷ es) h =
 right-use : (x start : ℕ) (e : Entry) → TypedBody e → Right (useOf x (e .reads) (e .writes) start (e .body))
 right-use x start e = go (e .body)
   where
-    go : (b : Option Part) → OfBody (λ p. Right p × (fits (e .reads) (e .writes) p ≡ true)) b → Right (useOf x (e .reads) (e .writes) start b)
+    go : (b : Option Part) → TypedAs e b → Right (useOf x (e .reads) (e .writes) start b)
     go none h = tt
     go (some p) h = (h .1, h .0)
 
@@ -122,10 +128,11 @@ module _ (P : Policy) (w : WellFormed P) where
       let a = append-empty (wrongs at (P .main)) (wrongsIn next (P .tables)) (f .0) in
       let b = append-empty (misfit at main (some (P .main))) (misfitsIn next (P .tables)) (f .1) in
       let tables : OfEach TypedBody (P .tables)
-                 = typed-entries (FineBody k m) (λ i p g. wrongs-right (scopeOf k m false) noUse (no-uses Right k m) mostDepth false i p g)
-                   next (P .tables) (w .bodies) (a .1) (b .1) in
+      = typed-entries (FineBody k m) (λ i p g. wrongs-right (scopeOf k m false) noUse (no-uses Right k m) mostDepth false i p g)
+      next (P .tables) (w .bodies) (a .1) (b .1) in
       let uses : OfUses Right (scopeOf k m true) (tableOf P) = of-tables Right TypedBody right-use P tables in
-      ((wrongs-right (scopeOf k m true) (tableOf P) uses mostDepth false at (P .main) (w .main) (a .0), fault-none (fits (P .reads) (P .writes) (P .main)) at (b .0)), tables)
+      let right : Right (P .main) = wrongs-right (scopeOf k m true) (tableOf P) uses mostDepth false at (P .main) (w .main) (a .0) in
+      ((right, fault-none (fits (P .reads) (P .writes) (P .main)) at (b .0)), tables)
 
   pub faults : typingFaults P ≡ [] ↔ Typed P
   unfolding typingFaults

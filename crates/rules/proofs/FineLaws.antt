@@ -33,7 +33,8 @@ each-at D [] i h l = absurd (omega arith)
 each-at D (e ∷ es) zero h l = h .0
 each-at D (e ∷ es) (suc i) h l = each-at D es i (h .1) (omega arith)
 
-pub of-tables : (C : Part → Type 0) (D : Entry → Type 0) → ((x start : ℕ) (e : Entry) → D e → C (useOf x (e .reads) (e .writes) start (e .body)))
+pub of-tables : (C : Part → Type 0) (D : Entry → Type 0)
+    → ((x start : ℕ) (e : Entry) → D e → C (useOf x (e .reads) (e .writes) start (e .body)))
     → (P : Policy) → OfEach D (P .tables) → OfUses C (scopeOf (P .fields) (length (P .tables)) true) (tableOf P)
 unfolding tableOf entries
 of-tables C D f P h m zero l u = absurd (omega arith)
@@ -79,7 +80,8 @@ module _ (c : Scope) (named : ℕ → Part) where
 
   -- ---- fields below k
 
-  fine-below : OfUses (FieldsBelow (c .fields)) c named → (d : ℕ) (pred : Bool) (p : Part) → Fine c named d pred p → FieldsBelow (c .fields) p
+  fine-below : OfUses (FieldsBelow (c .fields)) c named → (d : ℕ) (pred : Bool) (p : Part) → Fine c named d pred p
+      → FieldsBelow (c .fields) p
   unfolding Fine
   fine-below u zero pred p f = absurd f
   fine-below u (suc d) pred Id f = tt
@@ -123,7 +125,8 @@ body-use C F g h x start e = go (e .body)
     go none f = g x (e .reads) (e .writes)
     go (some p) f = h x (e .reads) (e .writes) start p f
 
-masks-use : (k x start : ℕ) (e : Entry) → masksFit k (e .reads) (e .writes) ≡ true → MasksBelow k (useOf x (e .reads) (e .writes) start (e .body))
+masks-use : (k x start : ℕ) (e : Entry) → masksFit k (e .reads) (e .writes) ≡ true
+    → MasksBelow k (useOf x (e .reads) (e .writes) start (e .body))
 unfolding tested written
 masks-use k x start e h = let m = masks-below k (e .reads) (e .writes) h in go (e .body) (m .1) (m .2)
   where
@@ -147,13 +150,15 @@ module _ (P : Policy) (w : WellFormed P) where
   pub main-formed : Formed (P .main)
   main-formed =
       let body = fine-formed (scopeOf k m false) noUse (no-uses Formed k m) mostDepth false in
-      let uses = of-tables Formed (λ e. OfBody (FineBody k m) (e .body)) (body-use Formed (FineBody k m) (λ x r w. tt) (λ x r w start. body)) P (w .bodies) in
+      let on = body-use Formed (FineBody k m) (λ x r w. tt) (λ x r w start. body) in
+      let uses = of-tables Formed (λ e. OfBody (FineBody k m) (e .body)) on P (w .bodies) in
       fine-formed (scopeOf k m true) (tableOf P) uses mostDepth false (P .main) (w .main)
 
   pub main-below : FieldsBelow (P .fields) (P .main)
   main-below =
       let body = fine-below (scopeOf k m false) noUse (no-uses (FieldsBelow k) k m) mostDepth false in
-      let uses = of-tables (FieldsBelow k) (λ e. OfBody (FineBody k m) (e .body)) (body-use (FieldsBelow k) (FineBody k m) (λ x r w. tt) (λ x r w start. body)) P (w .bodies) in
+      let on = body-use (FieldsBelow k) (FineBody k m) (λ x r w. tt) (λ x r w start. body) in
+      let uses = of-tables (FieldsBelow k) (λ e. OfBody (FineBody k m) (e .body)) on P (w .bodies) in
       fine-below (scopeOf k m true) (tableOf P) uses mostDepth false (P .main) (w .main)
 
   pub main-masks : MasksBelow (P .fields) (P .main)

@@ -27,16 +27,16 @@ drop-four : (s : List ℕ) (a : ℕ) → a + 4 ≤ length s
     → drop a s ≡ getD s a 0 ∷ getD s (a + 1) 0 ∷ getD s (a + 2) 0 ∷ getD s (a + 3) 0 ∷ drop (a + 4) s
 drop-four s a h =
     let one : (i : ℕ) → i < length s → drop i s ≡ getD s i 0 ∷ drop (i + 1) s
-            = λ i l. (let q : suc i ≡ i + 1 = omega arith in rw (← q) (drop-cons s i 0 l)) in
+    = λ i l. (let q : suc i ≡ i + 1 = omega arith in rw (← q) (drop-cons s i 0 l)) in
     let e2 : a + 1 + 1 ≡ a + 2 = omega arith in
     let e3 : a + 2 + 1 ≡ a + 3 = omega arith in
     let e4 : a + 3 + 1 ≡ a + 4 = omega arith in
     one a (omega arith)
     ∙ ap (λ (l : List ℕ). getD s a 0 ∷ l)
-        (one (a + 1) (omega arith) ∙ rw e2
-        (ap (λ (l : List ℕ). getD s (a + 1) 0 ∷ l)
-        (one (a + 2) (omega arith) ∙ rw e3
-        (ap (λ (l : List ℕ). getD s (a + 2) 0 ∷ l) (rw e4 at (one (a + 3) (omega arith)))))))
+    (one (a + 1) (omega arith) ∙ rw e2
+    (ap (λ (l : List ℕ). getD s (a + 1) 0 ∷ l)
+    (one (a + 2) (omega arith) ∙ rw e3
+    (ap (λ (l : List ℕ). getD s (a + 2) 0 ∷ l) (rw e4 at (one (a + 3) (omega arith)))))))
 
 module _ (s : List ℕ) where
   -- ---- entries that stand are written there
@@ -57,7 +57,8 @@ module _ (s : List ℕ) where
       let en : 2 + 4 * x + 4 ≡ 2 + 4 * suc x = omega arith in
       four ∙ rw (hi, lo, er, ew, en, h .0 .reads, h .0 .writes, n, ih)
 
-  pub bodies-stand : (es : List Entry) (x : ℕ) → AllStand s x es → drop (bodyStart s x) s ≡ bodies es ++ drop (bodyStart s (x + length es)) s
+  pub bodies-stand : (es : List Entry) (x : ℕ) → AllStand s x es
+      → drop (bodyStart s x) s ≡ bodies es ++ drop (bodyStart s (x + length es)) s
   unfolding bodies
   bodies-stand [] x h = rw (add-zero x)
   bodies-stand (e ∷ es) x h =
@@ -107,10 +108,16 @@ module _ (s : List ℕ) where
       let en : 5 + 4 * x + 1 ≡ 2 + 4 * suc x = omega arith in
       let size : lengthAt s x ≡ l = rw (p0 .1, p1 .1) (omega arith) in
       let after : drop (bodyStart s x + lengthAt s x) s ≡ later
-                = rw size (sym (drop-drop l (bodyStart s x) s) ∙ ap (drop l) b ∙ drop-append-seam (bytesOf (e .body)) later) in
-      ( record { reads = rw er at (p2 .1); writes = rw (er, ew) at (p3 .1); size = size; bytes = b ∙ ap (λ (k : List ℕ). bytesOf (e .body) ++ k) (sym after) }
-      , rw (er, ew, en) at (p3 .2)
-      , after )
+      = rw size (sym (drop-drop l (bodyStart s x) s) ∙ ap (drop l) b ∙ drop-append-seam (bytesOf (e .body)) later) in (
+        record {
+          reads = rw er at (p2 .1);
+          writes = rw (er, ew) at (p3 .1);
+          size = size;
+          bytes = b ∙ ap (λ (k : List ℕ). bytesOf (e .body) ++ k) (sym after);
+        },
+        rw (er, ew, en) at (p3 .2),
+        after,
+      )
 
   pub stand-written : (es : List Entry) (x : ℕ) (rest later : List ℕ) → drop (2 + 4 * x) s ≡ contents es ++ rest
       → drop (bodyStart s x) s ≡ bodies es ++ later → AllStand s x es
@@ -129,18 +136,18 @@ contents-length (e ∷ es) = omega (arith, contents-length es)
 
 module _ (P : Policy) where
   -- a policy whose entries stand in s, to its end, is written as s
-  pub book-stands : (s : List ℕ) → Bytes s → 2 ≤ length s → fieldsOf s ≡ P .fields → tablesOf s ≡ length (P .tables) → AllStand s 0 (entries P)
-      → bodyStart s (suc (tablesOf s)) ≡ length s → s ≡ writeBook P
+  pub book-stands : (s : List ℕ) → Bytes s → 2 ≤ length s → fieldsOf s ≡ P .fields → tablesOf s ≡ length (P .tables)
+      → AllStand s 0 (entries P) → bodyStart s (suc (tablesOf s)) ≡ length s → s ≡ writeBook P
   unfolding writeBook entries bodyStart
   book-stands s small two k m h end =
       let es : List Entry = entries P in
       let n : 0 + length es ≡ suc (tablesOf s) = omega arith in
       let ends : bodyStart s (suc (tablesOf s)) ≡ 6 + 4 * tablesOf s + length (bodies es) = rw n at (ends-stand s es 0 h) in
       let c : drop 2 s ≡ contents es ++ drop (bodyStart s 0) s
-            = contents-stand s small es 0 h (omega arith)
-              ∙ (let q : 2 + 4 * (0 + length es) ≡ 6 + 4 * tablesOf s = omega arith in ap (λ (a : ℕ). contents es ++ drop a s) q) in
+      = contents-stand s small es 0 h (omega arith)
+      ∙ (let q : 2 + 4 * (0 + length es) ≡ 6 + 4 * tablesOf s = omega arith in ap (λ (a : ℕ). contents es ++ drop a s) q) in
       let b : drop (bodyStart s 0) s ≡ bodies es
-            = bodies-stand s es 0 h ∙ rw (n, end, drop-length s) (append-nil (bodies es)) in
+      = bodies-stand s es 0 h ∙ rw (n, end, drop-length s) (append-nil (bodies es)) in
       drop-cons s 0 0 (omega arith) ∙ ap (λ (l : List ℕ). fieldsOf s ∷ l) (drop-cons s 1 0 (omega arith))
       ∙ rw (c, b, k, m)
 
@@ -152,7 +159,7 @@ module _ (P : Policy) where
       let es : List Entry = entries P in
       let q : firstBody (length (P .tables)) ≡ 2 + length (contents es) = omega (arith, contents-length es) in
       let b : drop (bodyStart s 0) s ≡ bodies es ++ []
-            = rw q (sym (drop-drop (length (contents es)) 2 s)) ∙ drop-append-seam (contents es) (bodies es) ∙ sym (append-nil (bodies es)) in
+      = rw q (sym (drop-drop (length (contents es)) 2 s)) ∙ drop-append-seam (contents es) (bodies es) ∙ sym (append-nil (bodies es)) in
       let h : AllStand s 0 es = stand-written s es 0 (bodies es) [] refl b in
       let n : 0 + length es ≡ suc (length (P .tables)) = omega arith in
       (h, rw n at (ends-stand s es 0 h) ∙ omega (arith, length-append (contents es) (bodies es), contents-length es))

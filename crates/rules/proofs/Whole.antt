@@ -73,17 +73,17 @@ tables-get s (suc n) x zero l = let q : x + 0 ≡ x = omega arith in rw q
 tables-get s (suc n) x (suc i) l = let q : x + suc i ≡ suc x + i = omega arith in rw q (tables-get s n (suc x) i (omega arith))
 
 -- a policy's tables stand for the same as those of the book where its entries stand
-pub use-is : (s : List ℕ) (P : Policy) → AllStand s 0 (entries P) → tablesOf s ≡ length (P .tables) → P .tables ≡ tablesFrom s (length (P .tables)) 1
-    → (x : ℕ) → 0 < x → x ≤ length (P .tables) → tableOf P x ≡ useAt s x
+pub use-is : (s : List ℕ) (P : Policy) → AllStand s 0 (entries P) → tablesOf s ≡ length (P .tables)
+    → P .tables ≡ tablesFrom s (length (P .tables)) 1 → (x : ℕ) → 0 < x → x ≤ length (P .tables) → tableOf P x ≡ useAt s x
 unfolding tableOf useAt entries bodyStart
 use-is s P h m t zero l u = absurd (omega arith)
 use-is s P h m t (suc i) l u =
     let n : ℕ = length (P .tables) in
     let one : 1 + i ≡ suc i = omega arith in
     let e : getD (P .tables) i noEntry ≡ tableAt s (suc i)
-          = ap (λ (es : List Entry). getD es i noEntry) t ∙ rw one at (tables-get s n 1 i (omega arith)) in
+    = ap (λ (es : List Entry). getD es i noEntry) t ∙ rw one at (tables-get s n 1 i (omega arith)) in
     let q : startIn (firstBody n) (entries P) (suc i) ≡ bodyStart s (suc i)
-          = rw (m, zero-add) at (start-stands s (entries P) 0 (suc i) h (omega arith)) in
+    = rw (m, zero-add) at (start-stands s (entries P) 0 (suc i) h (omega arith)) in
     rw (e, q)
 
 -- ---- the masks of entries that stand
@@ -114,6 +114,10 @@ starts-rise s x (suc n) = let q : x + suc n ≡ suc (x + n) = omega arith in rw 
 abbrev pub FineBody : ℕ → ℕ → Part → Type 0
 FineBody k m = Fine (scopeOf k m false) noUse mostDepth false
 
+-- the form of the bodies of some tables, by what s says of k and m
+abbrev pub FineBodies : List ℕ → List Entry → Type 0
+FineBodies s = OfEach (λ e. OfBody (FineBody (fieldsOf s) (tablesOf s)) (e .body))
+
 module _ (s : List ℕ) (small : Bytes s) where
   abbrev TableRead : ℕ → Entry → Type 0
   TableRead x e = Stands s x e × OfBody (FineBody (fieldsOf s) (tablesOf s)) (e .body)
@@ -128,11 +132,15 @@ module _ (s : List ℕ) (small : Bytes s) where
     where
       c : Scope
       c = scopeOf (fieldsOf s) (tablesOf s) false
+
       p : Part
       p = partAt s noUse mostDepth (bodyStart s (suc x))
+
       next : ℕ
       next = bodyStart s (suc (suc x))
-      go : (t : Bool) → eqb (lengthAt s (suc x)) 0 ≡ t → cond t (Next (bodyStart s (suc x))) (readBody (take next s) c (bodyStart s (suc x))) ≡ Next a
+
+      go : (t : Bool) → eqb (lengthAt s (suc x)) 0 ≡ t
+          → cond t (Next (bodyStart s (suc x))) (readBody (take next s) c (bodyStart s (suc x))) ≡ Next a
           → TableRead (suc x) (tableAt s (suc x))
       go true e q =
           let z : lengthAt s (suc x) ≡ 0 = eqb-true (lengthAt s (suc x)) 0 e in
@@ -145,7 +153,7 @@ module _ (s : List ℕ) (small : Bytes s) where
           (record { reads = refl; writes = refl; size = omega (arith, w .1); bytes = w .2 }, w .3)
 
   tables-read : (n x a : ℕ) → readEntries s n (suc x) ≡ Next a → bodyStart s (suc x + n) ≤ length s
-      → AllStand s (suc x) (tablesFrom s n (suc x)) × OfEach (λ e. OfBody (FineBody (fieldsOf s) (tablesOf s)) (e .body)) (tablesFrom s n (suc x))
+      → AllStand s (suc x) (tablesFrom s n (suc x)) × FineBodies s (tablesFrom s n (suc x))
   unfolding readEntries tablesFrom
   tables-read zero x a q le = (tt, tt)
   tables-read (suc n) x a q le =
@@ -172,7 +180,7 @@ module _ (s : List ℕ) (small : Bytes s) where
     abbrev pub EntriesRead : Type 0
     EntriesRead =
         AllStand s 0 (entries (policyOf s)) × Fine (scopeOf (fieldsOf s) (tablesOf s) true) (useAt s) mostDepth false (mainOf s)
-        × OfEach (λ e. OfBody (FineBody (fieldsOf s) (tablesOf s)) (e .body)) (tablesFrom s (tablesOf s) 1)
+        × FineBodies s (tablesFrom s (tablesOf s) 1)
 
     pub entries-read : EntriesRead
     unfolding policyOf entries readEntries
@@ -194,16 +202,17 @@ module _ (s : List ℕ) (small : Bytes s) where
         let len : length (P .tables) ≡ m = tables-length s m 1 in
         let is : s ≡ writeBook P = book-stands P s small (r .bytes .0) refl (sym len) (w .0) (r .lengths) in
         let same : (x : ℕ) → 0 < x → x ≤ m → useAt s x ≡ tableOf P x
-                 = λ x l u. sym (use-is s P (w .0) (sym len) (ap (λ (n : ℕ). tablesFrom s n 1) (sym len)) x l (omega arith)) in
-        ( record {
+        = λ x l u. sym (use-is s P (w .0) (sym len) (ap (λ (n : ℕ). tablesFrom s n 1) (sym len)) x l (omega arith)) in (
+          record {
             fields = r .fields;
             tables = omega (arith, r .tables);
             bytes = rw (← is) (r .bytes .1);
             masks = masks-read s (entries P) 0 (w .0) (rw len (r .masks));
             main = rw len (fine-same (scopeOf (fieldsOf s) m true) (useAt s) (tableOf P) same mostDepth false (mainOf s) (w .1));
             bodies = rw len (w .2);
-          }
-        , is )
+          },
+          is,
+        )
 
 -- ---- what is written is read
 
@@ -215,8 +224,10 @@ module _ (s : List ℕ) where
     where
       c : Scope
       c = scopeOf (fieldsOf s) (tablesOf s) false
+
       start : ℕ
       start = bodyStart s (suc x)
+
       go : (b : Option Part) → lengthAt s (suc x) ≡ length (bytesOf b) → drop start s ≡ bytesOf b ++ drop (bodyStart s (suc (suc x))) s
           → OfBody (FineBody (fieldsOf s) (tablesOf s)) b → (bodyAt s (suc x) ≡ b) × ((a : ℕ) × (readEntry s (suc x) ≡ Next a))
       go none n w f = let z = eq-eqb (lengthAt s (suc x)) 0 n in (rw z, (start, rw z))
@@ -226,7 +237,7 @@ module _ (s : List ℕ) where
           let r = body-reads s c noUse start (bodyStart s (suc (suc x))) p (drop (bodyStart s (suc (suc x))) s) f w next in
           (rw (z, r .1), (bodyStart s (suc (suc x)), rw z (r .0)))
 
-  tables-reads : (es : List Entry) (x : ℕ) → AllStand s (suc x) es → OfEach (λ e. OfBody (FineBody (fieldsOf s) (tablesOf s)) (e .body)) es
+  tables-reads : (es : List Entry) (x : ℕ) → AllStand s (suc x) es → FineBodies s es
       → (tablesFrom s (length es) (suc x) ≡ es) × (readEntries s (length es) (suc x) ≡ Next (length s))
   unfolding readEntries tablesFrom
   tables-reads [] x h f = (refl, refl)
@@ -246,16 +257,25 @@ module _ (P : Policy) (w : WellFormed P) where
       let same : (x : ℕ) → 0 < x → x ≤ tablesOf s → tableOf P x ≡ useAt s x = λ x l u. use-is s P h m (sym (t .0)) x l (omega arith) in
       let f : Fine c (tableOf P) mostDepth false (P .main) = rw (k, m) (w .main) in
       let r = body-reads s c (useAt s) (bodyStart s 0) (bodyStart s 1) (P .main) (drop (bodyStart s 1) s)
-              (fine-same c (tableOf P) (useAt s) same mostDepth false (P .main) f) (h .0 .bytes) (omega (arith, h .0 .size)) in
-      let masks : OfEach (λ e. masksFit (fieldsOf s) (e .reads) (e .writes) ≡ true) (entries P) = rw k (w .masks) in
-      ( rw (h .0 .reads, h .0 .writes, r .1, m, k, t .0)
-      , rw m (masks-reads s (entries P) 0 h masks)
-      , rw (r .0, m) (t .1) )
+      (fine-same c (tableOf P) (useAt s) same mostDepth false (P .main) f) (h .0 .bytes) (omega (arith, h .0 .size)) in
+      let masks : OfEach (λ e. masksFit (fieldsOf s) (e .reads) (e .writes) ≡ true) (entries P) = rw k (w .masks) in (
+        rw (h .0 .reads, h .0 .writes, r .1, m, k, t .0),
+        rw m (masks-reads s (entries P) 0 h masks),
+        rw (r .0, m) (t .1),
+      )
 
   pub whole-reads : Readable (writeBook P) × (policyOf (writeBook P) ≡ P)
   unfolding writeBook
   whole-reads =
       let h = written-stands P in
-      let r = stand-reads (writeBook P) refl refl (h .0) in
-      ( record { bytes = (omega arith, w .bytes); fields = w .fields; tables = w .tables; lengths = h .1; masks = r .1; form = (length (writeBook P), r .2) }
-      , r .0 )
+      let r = stand-reads (writeBook P) refl refl (h .0) in (
+        record {
+          bytes = (omega arith, w .bytes);
+          fields = w .fields;
+          tables = w .tables;
+          lengths = h .1;
+          masks = r .1;
+          form = (length (writeBook P), r .2);
+        },
+        r .0,
+      )

@@ -32,8 +32,8 @@ pub mask-byte : (k w : ℕ) → k ≤ mostFields → w < 2 ^ k → w < 256
 mask-byte k w h l = omega (arith, pow-mono h)
 
 module _ (c : Scope) (named : ℕ → Part) (hk : c .fields ≤ mostFields) (hm : c .tables ≤ mostTables) where
-  value-bytes : (code f v : ℕ) → code < 256 → f < c .fields → v < 65536 → Bytes (code ∷ f ∷ v / 256 ∷ v % 256 ∷ [])
-  value-bytes code f v h l u =
+  value-written : (code f v : ℕ) → code < 256 → f < c .fields → v < 65536 → Bytes (code ∷ f ∷ v / 256 ∷ v % 256 ∷ [])
+  value-written code f v h l u =
       bytes-also code (f ∷ v / 256 ∷ v % 256 ∷ []) h
       (bytes-also f (v / 256 ∷ v % 256 ∷ []) (omega arith)
       (bytes-also (v / 256) (v % 256 ∷ []) (omega arith) (bytes-also (v % 256) [] (omega arith) bytes-none)))
@@ -46,13 +46,15 @@ module _ (c : Scope) (named : ℕ → Part) (hk : c .fields ≤ mostFields) (hm 
   part-bytes zero pred p f = absurd f
   part-bytes (suc d) pred Id f = bytes-also 0 [] (omega arith) bytes-none
   part-bytes (suc d) pred Drop f = bytes-also 1 [] (omega arith) bytes-none
-  part-bytes (suc d) pred (Test i v) f = value-bytes 2 i v (omega arith) (f .0) (f .1)
-  part-bytes (suc d) pred (Set i v) f = value-bytes 3 i v (omega arith) (f .1) (f .2)
+  part-bytes (suc d) pred (Test i v) f = value-written 2 i v (omega arith) (f .0) (f .1)
+  part-bytes (suc d) pred (Set i v) f = value-written 3 i v (omega arith) (f .1) (f .2)
   part-bytes (suc d) pred (Not p) f = bytes-also 4 (write p) (omega arith) (part-bytes d true p f)
   part-bytes (suc d) pred (Sum p q) f =
-      bytes-also 5 (write p ++ write q) (omega arith) (bytes-append (write p) (write q) (part-bytes d pred p (f .0)) (part-bytes d pred q (f .1)))
+      bytes-also 5 (write p ++ write q) (omega arith)
+      (bytes-append (write p) (write q) (part-bytes d pred p (f .0)) (part-bytes d pred q (f .1)))
   part-bytes (suc d) pred (Seq p q) f =
-      bytes-also 6 (write p ++ write q) (omega arith) (bytes-append (write p) (write q) (part-bytes d pred p (f .0)) (part-bytes d pred q (f .1)))
+      bytes-also 6 (write p ++ write q) (omega arith)
+      (bytes-append (write p) (write q) (part-bytes d pred p (f .0)) (part-bytes d pred q (f .1)))
   part-bytes (suc d) pred (Beside wp wq p q) f =
       let l : List ℕ = write p ++ write q in
       bytes-also 7 (wp ∷ wq ∷ l) (omega arith)
@@ -66,7 +68,8 @@ unfolding bytesOf
 body-bytes F h none f = bytes-none
 body-bytes F h (some p) f = h p f
 
-bodies-bytes : (F : Part → Type 0) → ((p : Part) → F p → Bytes (write p)) → (es : List Entry) → OfEach (λ e. OfBody F (e .body)) es → Bytes (bodies es)
+bodies-bytes : (F : Part → Type 0) → ((p : Part) → F p → Bytes (write p)) → (es : List Entry)
+    → OfEach (λ e. OfBody F (e .body)) es → Bytes (bodies es)
 unfolding bodies
 bodies-bytes F h [] f = bytes-none
 bodies-bytes F h (e ∷ es) f = bytes-append (bytesOf (e .body)) (bodies es) (body-bytes F h (e .body) (f .0)) (bodies-bytes F h es (f .1))
@@ -102,7 +105,7 @@ book-bytes P w =
     let c : Bytes (contents es) = contents-bytes k (w .fields .1) es (w .masks) n in
     let main : Bytes (write (P .main)) = part-bytes (scopeOf k m true) _ (w .fields .1) (w .tables) _ _ (P .main) (w .main) in
     let tables : Bytes (bodies (P .tables))
-               = bodies-bytes (FineBody k m) (λ p f. part-bytes (scopeOf k m false) _ (w .fields .1) (w .tables) _ _ p f) (P .tables) (w .bodies) in
+    = bodies-bytes (FineBody k m) (λ p f. part-bytes (scopeOf k m false) _ (w .fields .1) (w .tables) _ _ p f) (P .tables) (w .bodies) in
     bytes-also k (m ∷ (contents es ++ bodies es)) (omega (arith, w .fields .1))
     (bytes-also m (contents es ++ bodies es) (omega (arith, w .tables))
     (bytes-append (contents es) (bodies es) c (bytes-append (write (P .main)) (bodies (P .tables)) main tables)))
