@@ -1,34 +1,41 @@
-pub mod Acceptance
-pub mod AcceptedBooks
-pub mod Decoding
-pub mod Faults
-pub mod FieldsBelow
-pub mod FineLaws
-pub mod Lists
-pub mod MaskLaws
-pub mod ReadingLaws
+-- What is shown of the definitions. `Demands` states the three demands; the other files are named for what they show.
+pub mod Demands
 pub mod Trials
 pub mod Counterexamples
+-- masks, packets, order, sets
+pub mod Lists
+pub mod MaskLaws
+pub mod MaskExt
+pub mod PacketLaws
+pub mod Orders
+pub mod Sets
+pub mod Lacked
+-- a book is accepted exactly if it is a right policy, written
+pub mod ReadingLaws
+pub mod Decoding
+pub mod Standing
+pub mod Whole
+pub mod WrittenBytes
+pub mod FieldsBelow
+pub mod FineLaws
+pub mod Faults
+pub mod Acceptance
+pub mod AcceptedBooks
+-- the meaning: Lemma 5, and that the working gives exactly it
+pub mod TypingLaws
+pub mod Frame
+pub mod Serial
+pub mod Exact
+pub mod Padding
+-- the steps: every schedule, the room, the bound, never stuck
 pub mod Measures
 pub mod Bounds
 pub mod Steps
 pub mod Schedules
 pub mod Rooms
 pub mod Choose
-pub mod Orders
-pub mod Sets
-pub mod PacketLaws
-pub mod TypingLaws
-pub mod Frame
-pub mod Serial
-pub mod Exact
-pub mod Lacked
-pub mod Padding
 pub mod Everywhere
-pub mod MaskExt
 pub mod Stuck
+-- the answers
 pub mod Answering
 pub mod Runs
-pub mod Standing
-pub mod Whole
-pub mod WrittenBytes

@@ -14,6 +14,7 @@ use Rattle.rules.specs.Parts.{Part, Id, Drop, Test, Set, Not, Sum, Seq, 
 use Rattle.rules.specs.Typing.{Right}
 use Rattle.rules.specs.Meaning.{Gives}
 use Rattle.rules.specs.Working.{out}
+use Rattle.rules.proofs.FieldsBelow.{FieldsBelow}
 use Rattle.rules.proofs.Orders.{order-refl}
 use Rattle.rules.proofs.Sets.{after-out, after-in, map-out, map-in, unique}
 use Rattle.rules.proofs.PacketLaws.{packet-ext, passes-alike, length-put, put-other, put-like}
@@ -78,18 +79,6 @@ put-padded f v a h l =
 
 -- ---- the meaning of a part that names no field from k on
 
-abbrev pub Below : ℕ → Part → Type 0
-Below k Id = Unit {0}
-Below k Drop = Unit {0}
-Below k (Test f v) = f < k
-Below k (Set f v) = f < k
-Below k (Not p) = Below k p
-Below k (Sum p q) = Below k p × Below k q
-Below k (Seq p q) = Below k p × Below k q
-Below k (Beside wp wq p q) = Below k p × Below k q
-Below k (Table x r w start p) = Below k p
-Below k (Open x r w) = Unit {0}
-
 -- what is given is as long
 pub as-long : (p : Part) (a b : Packet) → Gives p a b → length b ≡ length a
 as-long Id a b g = ap length g
@@ -122,7 +111,7 @@ carries-then k p q hp hq = record {
 }
 
 module _ (k : ℕ) (few : k ≤ places) where
-  carries : (p : Part) → Below k p → Carries k p
+  carries : (p : Part) → FieldsBelow k p → Carries k p
   carries Id h = record { there = λ a b l g. ap padded g; back = λ a c l g. (a, l, g, refl) }
   carries Drop h = record { there = λ a b l g. g; back = λ a c l g. absurd g }
   carries (Test f v) h = record {
@@ -150,7 +139,7 @@ module _ (k : ℕ) (few : k ≤ places) where
   carries (Table x r w start p) h = record { there = carries p h .there; back = carries p h .back }
   carries (Open x r w) h = record { there = λ a b l g. g; back = λ a c l g. absurd g }
 
-  pub padded-gives : (p : Part) → Below k p → (a c : Packet) → length a ≡ k → Gives p (padded a) c ↔ GivesPadded k p a c
+  pub padded-gives : (p : Part) → FieldsBelow k p → (a c : Packet) → length a ≡ k → Gives p (padded a) c ↔ GivesPadded k p a c
   padded-gives p h a c l = (
     carries p h .back a c l,
     λ g. subst (λ (x : Packet). Gives p (padded a) x) (sym (g .2)) (carries p h .there a (g .0) l (g .3)),
@@ -181,7 +170,7 @@ take-ascending k (x ∷ s) h a = (
   take-ascending k s (λ c m. h c (inr m)) (a .1),
 )
 
-module _ (p : Part) (formed : Formed p) (right : Right p) (k : ℕ) (few : k ≤ places) (below : Below k p)
+module _ (p : Part) (formed : Formed p) (right : Right p) (k : ℕ) (few : k ≤ places) (below : FieldsBelow k p)
     (a : Packet) (long : length a ≡ k) where
   abbrev rows : Packets
   rows = out p (padded a ∷ [])

@@ -1,0 +1,174 @@
+-- The three demands on one page, as far as they speak of the rules; each is proved by citing the theorem that shows it.
+-- What they say of the code stands in the contracts of the functions, which are stated by the same definitions.
+use Prim.Native.Nat.{ℕ, _*_, _^_, _≤_, _<_}
+use native.Mathlib.Omega.{arith}
+use mathlib.Core.Path.{_≡_, sym}
+use mathlib.Core.Bool.{true}
+use mathlib.Core.Logic.{_↔_}
+use mathlib.Core.List.{List, [], map}
+use lib.Dec.{lit≤}
+use lib.ListN.{length, take}
+use Rattle.rules.specs.declared.Refusal.{Refusal}
+use Rattle.rules.specs.declared.Refusal.the-variants.{BookLength, Counts, Lengths, EntryMasks, Form, Limits, Typing, PacketLength, Unpopulated, TooWide, Positions, BufferLength, Stuck, Input}
+use Rattle.rules.specs.declared.Sizes.{Sizes}
+use Rattle.rules.specs.declared.Verdict.{Verdict}
+use Rattle.rules.specs.declared.Verdict.the-variants.{Accepted}
+use Rattle.rules.specs.declared.Evaluated.the-variants.{NotGiven}
+use Rattle.rules.specs.declared.Ran.the-variants.{NotRun}
+use Rattle.rules.specs.Packets.{Packet, Packets, mostPackets, Ascending, _∈_}
+use Rattle.rules.specs.Parts.{Part, Beside, parts, deep}
+use Rattle.rules.specs.Typing.{Right, rightBeside}
+use Rattle.rules.specs.Books.{Policy, writeBook, WellFormed, Book}
+use Rattle.rules.specs.Reading.{fieldsOf, mainOf, verdict}
+use Rattle.rules.specs.Meaning.{Gives}
+use Rattle.rules.specs.Working.{room}
+use Rattle.rules.specs.States.{live, run, stuckIn}
+use Rattle.rules.specs.Answers.{numberOf, areaWords, startSet, startSpot, given, evaluated, evaluatedResult, start, ran, ranResult, ranArea}
+use Rattle.rules.proofs.Lists.{All}
+use Rattle.rules.proofs.Measures.{held}
+use Rattle.rules.proofs.Serial.{Paired, serializes, commutes}
+use Rattle.rules.proofs.Padding.{words-exact, words-ascending, words-determined}
+use Rattle.rules.proofs.Schedules.{held-width}
+use Rattle.rules.proofs.Rooms.{live-room, room-reached}
+use Rattle.rules.proofs.Bounds.{steps-bound}
+use Rattle.rules.proofs.Stuck.{Has, never-stuck}
+use Rattle.rules.proofs.Decoding.{Bytes}
+use Rattle.rules.proofs.Acceptance.{exactly, unique}
+use Rattle.rules.proofs.AcceptedBooks.{accepted-fields, accepted-formed, accepted-right, accepted-below, accepted-tested, accepted-written}
+use Rattle.rules.proofs.Answering.{Granted, Admitted, not-given-keeps, not-run-keeps}
+use Rattle.rules.proofs.Runs.{stepsOf, Stops, stops, same-words}
+-- the trials of document 01 marked *, the need of each condition of a right concurrent part, and the trap of pairing across packets
+pub use Rattle.rules.proofs.Trials.{starred}
+pub use Rattle.rules.proofs.Counterexamples.{each-needed, trap}
+
+-- ---- Demand 1: any book, packet, schedule or buffer is answered. `verdict`, `evaluated` and `ran` are functions of all bytes, words
+-- and lengths, so there is an answer, and one. Bad input is refused by number, and a refusal changes nothing lent.
+
+pub one-verdict : (book : List ℕ) → (v : Verdict) × ((w : Verdict) → verdict book ≡ w → w ≡ v)
+one-verdict book = (verdict book, λ w e. sym e)
+
+pub numbered : (r : Refusal) → (1 ≤ numberOf r) × (numberOf r ≤ 14)
+unfolding numberOf
+numbered BookLength = (lit≤ tt, lit≤ tt)
+numbered Counts = (lit≤ tt, lit≤ tt)
+numbered Lengths = (lit≤ tt, lit≤ tt)
+numbered EntryMasks = (lit≤ tt, lit≤ tt)
+numbered (Form at) = (lit≤ tt, lit≤ tt)
+numbered Limits = (lit≤ tt, lit≤ tt)
+numbered (Typing at) = (lit≤ tt, lit≤ tt)
+numbered PacketLength = (lit≤ tt, lit≤ tt)
+numbered Unpopulated = (lit≤ tt, lit≤ tt)
+numbered TooWide = (lit≤ tt, lit≤ tt)
+numbered Positions = (lit≤ tt, lit≤ tt)
+numbered BufferLength = (lit≤ tt, lit≤ tt)
+numbered (Stuck at) = (lit≤ tt, lit≤ tt)
+numbered Input = (lit≤ tt, lit≤ tt)
+
+pub refused-evaluation-keeps : (book packet result : List ℕ) (r : Refusal) → evaluated book packet (length result) ≡ NotGiven r
+    → evaluatedResult book packet result ≡ result
+refused-evaluation-keeps = not-given-keeps
+
+pub refused-run-keeps : (book packet schedule result area : List ℕ) (r : Refusal)
+    → ran book packet schedule (length result) (length area) ≡ NotRun r
+    → (ranResult book packet schedule result (length area) ≡ result) × (ranArea book packet schedule (length result) area ≡ area)
+refused-run-keeps = not-run-keeps
+
+-- ---- Demand 2: a book is accepted exactly when it is a policy within document 01's layout, limits and typing, written; that policy
+-- is unique; the packets given are exactly those of the published meaning.
+
+pub accepted-exactly : (book : List ℕ) → Bytes book
+    → ((z : Sizes) × (verdict book ≡ Accepted z)) ↔ ((P : Policy) × Book P × (book ≡ writeBook P))
+accepted-exactly = exactly
+
+pub policy-unique : (P Q : Policy) → WellFormed P → WellFormed Q → writeBook P ≡ writeBook Q → P ≡ Q
+policy-unique = unique
+
+module _ (book packet : List ℕ) (bytes : Bytes book) (granted : Granted book packet) where
+  -- the packets given, as the k words of each that go to the result
+  abbrev pub packetsGiven : Packets
+  packetsGiven = map (take (fieldsOf book)) (given book packet)
+
+  pub packets-exactly : (b : Packet) → (b ∈ packetsGiven) ↔ Gives (mainOf book) packet b
+  unfolding given
+  packets-exactly =
+      let z = granted .sizes in
+      let a = granted .accepted in
+      words-exact (mainOf book) (accepted-formed book z a bytes) (accepted-right book z a bytes) (fieldsOf book)
+      (accepted-fields book z a .1) (accepted-below book z a bytes) packet (granted .words)
+
+  -- ascending, so no two are equal
+  pub packets-ascending : Ascending packetsGiven
+  unfolding given
+  packets-ascending =
+      let z = granted .sizes in
+      let a = granted .accepted in
+      words-ascending (mainOf book) (accepted-formed book z a bytes) (accepted-right book z a bytes) (fieldsOf book)
+      (accepted-fields book z a .1) (accepted-below book z a bytes) packet (granted .words)
+
+  -- and that determines them
+  pub packets-determined : (t : Packets) → Ascending t → ((b : Packet) → (b ∈ t) ↔ Gives (mainOf book) packet b) → t ≡ packetsGiven
+  unfolding given
+  packets-determined =
+      let z = granted .sizes in
+      let a = granted .accepted in
+      words-determined (mainOf book) (accepted-formed book z a bytes) (accepted-right book z a bytes) (fieldsOf book)
+      (accepted-fields book z a .1) (accepted-below book z a bytes) packet (granted .words)
+
+-- document 001's Lemma 5 for one packet: what the two sides pair to is what the sequence gives; and the sides may be exchanged
+pub lemma-5 : (wp wq : ℕ) (p q : Part) → rightBeside wp wq p q ≡ true → Right p → Right q → (a b : Packet)
+    → Paired wp wq p q a b ↔ Gives (Beside wp wq p q) a b
+lemma-5 = serializes
+
+pub sides-exchanged : (wp wq : ℕ) (p q : Part) → rightBeside wp wq p q ≡ true → Right p → Right q → (a b : Packet)
+    → Gives (Beside wp wq p q) a b ↔ Gives (Beside wq wp q p) a b
+sides-exchanged = commutes
+
+-- ---- Demand 3: one number N for all schedules
+
+module _ (book packet : List ℕ) (bytes : Bytes book) (admitted : Admitted book packet) where
+  -- at least N choices stop after exactly N steps; fewer stop unfinished, with a step ready
+  pub one-number : (schedule : List ℕ) (words area : ℕ) → mostPackets * fieldsOf book ≤ words → areaWords ≤ area
+      → Stops book packet schedule (ran book packet schedule words area)
+  one-number schedule words area fit wide =
+      let z = admitted .granted .sizes in
+      let a = admitted .granted .accepted in
+      stops book packet schedule words area admitted fit wide (accepted-right book z a bytes) (accepted-tested book z a bytes)
+      (accepted-written book z a bytes)
+
+  -- on demand 2's set: the result is what the evaluator leaves
+  pub same-result : (schedule result : List ℕ) (area : ℕ) → mostPackets * fieldsOf book ≤ length result → areaWords ≤ area
+      → stepsOf book packet ≤ length schedule → ranResult book packet schedule result area ≡ evaluatedResult book packet result
+  same-result schedule result area fit wide =
+      let z = admitted .granted .sizes in
+      let a = admitted .granted .accepted in
+      same-words book packet schedule result area admitted fit wide (accepted-right book z a bytes) (accepted-tested book z a bytes)
+      (accepted-written book z a bytes)
+
+  -- N ≤ 4·n·16^D
+  pub bounded : stepsOf book packet ≤ 4 * parts (mainOf book) * 16 ^ deep (mainOf book)
+  bounded = steps-bound (mainOf book) (startSet packet) (admitted .granted .narrow)
+
+  -- the room is the most positions that any schedule holds at once
+  pub room-enough : (schedule : List ℕ) → live (run (start book packet) schedule) ≤ room (mainOf book) (startSet packet)
+  unfolding start
+  room-enough = live-room (startSpot book) (mainOf book) (startSet packet)
+
+  pub room-needed : (schedule : List ℕ) × All (λ b. b < 256) schedule × (live (run (start book packet) schedule) ≡ room (mainOf book) (startSet packet))
+  unfolding start
+  room-needed = room-reached (startSpot book) (mainOf book) (startSet packet) (omega (arith, admitted .positions))
+
+  -- no position of any state holds more than 16 packets
+  pub never-too-wide : (schedule : List ℕ) → held (run (start book packet) schedule) ≤ mostPackets
+  unfolding start
+  never-too-wide schedule =
+      omega (arith, held-width (startSpot book) (mainOf book) (startSet packet) schedule, admitted .granted .narrow)
+
+  -- every position of every state has the fields in T and M of the part standing there, so no step is stuck
+  pub never-lacking : (schedule : List ℕ)
+      → Has (startSpot book .fields) (mainOf book) (run (start book packet) schedule) × (stuckIn (start book packet) schedule ≡ [])
+  unfolding start
+  never-lacking =
+      let z = admitted .granted .sizes in
+      let a = admitted .granted .accepted in
+      never-stuck (startSpot book) (mainOf book) (accepted-right book z a bytes) (accepted-tested book z a bytes)
+      (accepted-written book z a bytes) (startSet packet)
