@@ -1,0 +1,13 @@
+//! An independent second program of the policy books, written from document 01 alone.
+//!
+//! `accept` reads and types a book, `evaluate` gives its set of packets, `run` steps it under a
+//! schedule, `print` is the run printer. `meaning` says the published meaning a second time, plainly,
+//! so that this program is also compared with itself.
+
+pub mod answers;
+pub mod book;
+pub mod codes;
+pub mod typing;
+
+pub use answers::{Refusal, Shape, Verdict};
+pub use book::accept;
