@@ -7,7 +7,12 @@
 pub mod answers;
 pub mod book;
 pub mod codes;
+pub mod evaluate;
+pub mod meaning;
+pub mod policy;
+pub mod sets;
 pub mod typing;
 
-pub use answers::{Refusal, Shape, Verdict};
+pub use answers::{Evaluated, Ran, Refusal, Shape, Verdict};
 pub use book::accept;
+pub use evaluate::evaluate;
