@@ -8,11 +8,15 @@ pub mod answers;
 pub mod book;
 pub mod codes;
 pub mod evaluate;
+pub mod machine;
 pub mod meaning;
 pub mod policy;
+pub mod printer;
 pub mod sets;
 pub mod typing;
 
 pub use answers::{Evaluated, Ran, Refusal, Shape, Verdict};
 pub use book::accept;
 pub use evaluate::evaluate;
+pub use machine::run;
+pub use printer::print;

@@ -15,8 +15,6 @@ pub enum Policy {
     Table(u8),
 }
 
-pub use Policy::{Drop, Id, Table, Test};
-
 pub fn set(field: u8, value: u16) -> Policy {
     Policy::Set(field, value)
 }

@@ -135,4 +135,24 @@ impl Set {
         }
         Ok(())
     }
+
+    pub fn union(p: &Set, q: &Set) -> Result<Set, TooWide> {
+        let mut union = *p;
+        union.add_all(q)?;
+        Ok(union)
+    }
+
+    pub fn pairings(p: &Set, q: &Set, right: u8) -> Result<Set, TooWide> {
+        let mut pairings = Set::EMPTY;
+        pairings.add_pairings(p, q, right)?;
+        Ok(pairings)
+    }
+
+    /// The lowest packet, and the rest. There must be a packet.
+    pub fn split_lowest(&self) -> (Set, Set) {
+        let mut rest = *self;
+        rest.packets.copy_within(1..self.count, 0);
+        rest.count -= 1;
+        (Set::one(self.packets[0]), rest)
+    }
 }
