@@ -7,11 +7,14 @@
 pub mod answers;
 pub mod book;
 pub mod codes;
+pub mod edges;
 pub mod evaluate;
+pub mod generate;
 pub mod machine;
 pub mod meaning;
 pub mod policy;
 pub mod printer;
+pub mod rng;
 pub mod sets;
 pub mod typing;
 
