@@ -37,8 +37,9 @@ impl Maker<'_> {
         let below = Allowed { depth: allowed.depth - 1, ..allowed };
         let (first, second) = self.share(parts - 1);
         match self.rng.below(100) {
-            0..=11 => self.negation(parts, allowed),
-            12..=39 => sum(self.policy(first, below), self.policy(second, below)),
+            0..=6 => self.negation(parts, allowed),
+            7..=12 if allowed.depth >= 3 => self.several(allowed.write),
+            7..=39 => sum(self.policy(first, below), self.policy(second, below)),
             40..=69 => sequence(self.policy(first, below), self.policy(second, below)),
             _ if allowed.concurrency > 0 => self.concurrent(first, second, below),
             _ => sequence(self.policy(first, below), self.policy(second, below)),
@@ -54,9 +55,9 @@ impl Maker<'_> {
     fn leaf(&mut self, allowed: Allowed) -> Policy {
         match self.rng.below(100) {
             0..=14 => Policy::Id,
-            15..=18 => Policy::Drop,
-            19..=33 => self.test(allowed.test),
-            34..=49 => self.table(allowed),
+            15..=17 => Policy::Drop,
+            18..=27 => self.test(allowed.test),
+            28..=44 => self.table(allowed),
             _ => self.set(allowed.write),
         }
     }
@@ -73,6 +74,13 @@ impl Maker<'_> {
             Some(field) => set(field, self.value()),
             None => Policy::Id,
         }
+    }
+
+    /// One field set to each of some values: sets of several packets.
+    fn several(&mut self, fields: u8) -> Policy {
+        let Some(field) = self.field_of(fields) else { return Policy::Id };
+        let sets: Vec<Policy> = (0..self.rng.between(2, 4)).map(|value| set(field, value as u16)).collect();
+        balanced(sum, &sets)
     }
 
     /// A use of a table whose declaration may stand here, if there is one.
