@@ -5,8 +5,10 @@
 //! so that this program is also compared with itself.
 
 pub mod answers;
+pub mod bench;
 pub mod book;
 pub mod codes;
+pub mod compare;
 pub mod edges;
 pub mod evaluate;
 pub mod generate;
@@ -17,6 +19,8 @@ pub mod printer;
 pub mod rng;
 pub mod sets;
 pub mod typing;
+pub mod vector_set;
+pub mod vectors;
 
 pub use answers::{Evaluated, Ran, Refusal, Shape, Verdict};
 pub use book::accept;
