@@ -284,6 +284,7 @@ pub fn printer_input(rng: &mut Rng, edge_books: &[Vec<u8>]) -> Vec<u8> {
     let book = match kind {
         0..=59 => sound_book(rng),
         60..=69 => rng.pick(edge_books).clone(),
+        97 | 99 => sound_book(rng),
         _ => {
             let book = if rng.chance(80) { sound_book(rng) } else { rng.pick(edge_books).clone() };
             damaged(rng, &book)
@@ -292,8 +293,9 @@ pub fn printer_input(rng: &mut Rng, edge_books: &[Vec<u8>]) -> Vec<u8> {
     let mut input = sound_input(rng, &book);
     match kind {
         // The length says more or less than there is.
-        96 => input[rng.below(2)] ^= 1 << rng.below(8),
-        97 => input.truncate(rng.below(book.len() + 20)),
+        95 => input[rng.below(2)] ^= 1 << rng.below(8),
+        96 => input.truncate(rng.below(book.len() + 2)),
+        97 => input.truncate(2 + book.len() + rng.below(17)),
         98 => input.truncate(rng.below(4)),
         99 => {
             let more = rng.between(8180, 8200);

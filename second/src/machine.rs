@@ -8,7 +8,7 @@ use crate::answers::*;
 use crate::book::{self, all_fields, Book};
 use crate::codes::*;
 use crate::evaluate::{check_buffer, check_packet, work_through, write_packets};
-use crate::sets::{packet_from_words, without, Set};
+use crate::sets::{packet_from_words, without, Set, TooWide};
 
 /// Runs the book's main policy on the packet under the schedule. A refusal alters neither buffer.
 pub fn run(bytes: &[u8], packet: &[u16], schedule: &[u8], result: &mut [u16], work: &mut [u16]) -> Ran {
@@ -84,7 +84,6 @@ enum Stage {
     Finished,
 }
 
-#[derive(Clone, Copy)]
 struct Position {
     /// The code byte of its part.
     part: usize,
@@ -95,6 +94,17 @@ struct Position {
     below: [Index; 2],
     /// The set placed, the set a negation keeps, or the finished set.
     set: Set,
+}
+
+impl Position {
+    const UNUSED: Position = Position {
+        part: 0,
+        stage: Stage::Placed,
+        fields: 0,
+        above: NOWHERE,
+        below: [NOWHERE; 2],
+        set: Set::EMPTY,
+    };
 }
 
 pub struct Machine<'a> {
@@ -120,8 +130,8 @@ impl<'a> Machine<'a> {
             ready: Vec::with_capacity(room),
         };
         let fields = all_fields(book.shape.fields);
-        let set = Set::one(packet_from_words(packet));
-        let root = machine.take_position(book.body_start(0), fields, NOWHERE, &set);
+        let root = machine.take_position(NOWHERE, book.body_start(0), fields);
+        machine.positions[root as usize].set.become_one(packet_from_words(packet));
         let ready = machine.place(root);
         machine.ready.extend(ready);
         machine
@@ -221,16 +231,15 @@ impl<'a> Machine<'a> {
     }
 
     fn enter_not(&mut self, here: Index, pick: usize) {
-        let Position { part, fields, set, .. } = self.positions[here as usize];
-        let below = self.take_position(part + 1, fields, here, &set);
+        let below = self.take_position_on_same_set(here, self.positions[here as usize].part + 1);
         self.stand_above(here, Stage::Entered, [below, NOWHERE]);
         self.ready[pick] = self.place(below).unwrap_or(here);
     }
 
     fn enter_sum(&mut self, here: Index, pick: usize) {
-        let Position { part, fields, set, .. } = self.positions[here as usize];
-        let p = self.take_position(part + 1, fields, here, &set);
-        let q = self.take_position(self.second[part] as usize, fields, here, &set);
+        let part = self.positions[here as usize].part;
+        let p = self.take_position_on_same_set(here, part + 1);
+        let q = self.take_position_on_same_set(here, self.second[part] as usize);
         self.stand_above(here, Stage::Entered, [p, q]);
         self.place_two(here, pick);
     }
@@ -244,51 +253,63 @@ impl<'a> Machine<'a> {
     }
 
     fn enter_beside(&mut self, here: Index, pick: usize) {
-        let Position { part, fields, set, .. } = &self.positions[here as usize];
-        let (part, fields, packet) = (*part, *fields, set.packets()[0]);
+        let Position { part, fields, ref set, .. } = self.positions[here as usize];
+        let packet = set.packets()[0];
         let (left, right) = (self.bytes[part + 1], self.bytes[part + 2]);
-        let for_p = Set::one(without(&packet, right));
-        let p = self.take_position(part + 3, fields & !right, here, &for_p);
-        let for_q = Set::one(without(&packet, left));
-        let q = self.take_position(self.second[part] as usize, fields & !left, here, &for_q);
+        let p = self.take_position(here, part + 3, fields & !right);
+        let q = self.take_position(here, self.second[part] as usize, fields & !left);
+        self.positions[p as usize].set.become_one(without(&packet, right));
+        self.positions[q as usize].set.become_one(without(&packet, left));
         self.stand_above(here, Stage::Entered, [p, q]);
         self.place_two(here, pick);
     }
 
+    /// Splits into the lowest packet and the rest, both under this same part.
     fn split_beside(&mut self, here: Index, pick: usize) {
-        let Position { part, fields, set, .. } = self.positions[here as usize];
-        let (lowest, rest) = set.split_lowest();
-        let first = self.take_position(part, fields, here, &lowest);
-        let second = self.take_position(part, fields, here, &rest);
-        self.stand_above(here, Stage::Split, [first, second]);
+        let Position { part, fields, .. } = self.positions[here as usize];
+        let lowest = self.take_position(here, part, fields);
+        let rest = self.take_position_on_same_set(here, part);
+        let packet = self.positions[rest as usize].set.take_lowest();
+        self.positions[lowest as usize].set.become_one(packet);
+        self.stand_above(here, Stage::Split, [lowest, rest]);
         self.place_two(here, pick);
     }
 
     /// A sequence whose p is finished puts q on p's set in its own position.
     fn take_second(&mut self, here: Index, pick: usize) {
-        let Position { part, below, .. } = self.positions[here as usize];
-        self.positions[here as usize].set = self.positions[below[0] as usize].set;
-        self.free.push(below[0]);
+        let Position { part, below: [p, _], .. } = self.positions[here as usize];
+        self.copy_set(p, here);
+        self.free.push(p);
         self.place_in_own_position(here, self.second[part] as usize, pick);
     }
 
     /// Leaves or joins: the set is put together from those below, which are then gone.
     fn leave(&mut self, here: Index) {
-        let Position { part, stage, below, .. } = self.positions[here as usize];
-        let first = self.positions[below[0] as usize].set;
-        self.free.push(below[0]);
-        if self.bytes[part] == NOT {
-            self.positions[here as usize].set.remove_all(&first);
+        let Position { part, stage, below: [p, q], .. } = self.positions[here as usize];
+        let code = self.bytes[part];
+        if code == NOT {
+            let [kept, given] = self.two_sets(here, p);
+            kept.remove_all(given);
+            self.free.push(p);
             return;
         }
-        let second = self.positions[below[1] as usize].set;
-        self.free.push(below[1]);
-        let together = if stage == Stage::Entered && self.bytes[part] == BESIDE {
-            Set::pairings(&first, &second, self.bytes[part + 2])
+        let together = if code == BESIDE && stage == Stage::Entered {
+            self.pair_up(here, p, q, self.bytes[part + 2])
         } else {
-            Set::union(&first, &second)
+            self.copy_set(p, here);
+            let [union, given_by_q] = self.two_sets(here, q);
+            union.add_all(given_by_q)
         };
-        self.positions[here as usize].set = together.expect("the policy is not too wide for the packet");
+        together.expect("the policy is not too wide for the packet");
+        self.free.extend([p, q]);
+    }
+
+    /// Every pairing of a packet of p and one of q.
+    fn pair_up(&mut self, here: Index, p: Index, q: Index, right: u8) -> Result<(), TooWide> {
+        let distinct = [here as usize, p as usize, q as usize];
+        let [here, p, q] = self.positions.get_disjoint_mut(distinct).expect("three positions");
+        here.set.clear();
+        here.set.add_pairings(&p.set, &q.set, right)
     }
 
     /// Marks the position finished; the position above takes its place in the list if it is now ready.
@@ -319,17 +340,16 @@ impl<'a> Machine<'a> {
     /// Places the part of a new or changed position on its set, and answers the one position in or
     /// below it that is ready; none if it is finished at once.
     fn place(&mut self, here: Index) -> Option<Index> {
-        let Position { part, fields, .. } = self.positions[here as usize];
+        let part = self.positions[here as usize].part;
         match self.bytes[part] {
             ID => {
                 self.positions[here as usize].stage = Stage::Finished;
                 None
             }
             SEQUENCE => {
-                let set = self.positions[here as usize].set;
-                let below = self.take_position(part + 1, fields, here, &set);
-                self.stand_above(here, Stage::Waiting, [below, NOWHERE]);
-                Some(self.place(below).unwrap_or(here))
+                let p = self.take_position_on_same_set(here, part + 1);
+                self.stand_above(here, Stage::Waiting, [p, NOWHERE]);
+                Some(self.place(p).unwrap_or(here))
             }
             _ => {
                 self.positions[here as usize].stage = Stage::Placed;
@@ -357,18 +377,32 @@ impl<'a> Machine<'a> {
         position.below = below;
     }
 
-    fn take_position(&mut self, part: usize, fields: u8, above: Index, set: &Set) -> Index {
-        let position =
-            Position { part, stage: Stage::Placed, fields, above, below: [NOWHERE; 2], set: *set };
-        match self.free.pop() {
-            Some(index) => {
-                self.positions[index as usize] = position;
-                index
-            }
-            None => {
-                self.positions.push(position);
-                (self.positions.len() - 1) as Index
-            }
-        }
+    /// A new position below `above`; its set is left for the caller to give.
+    fn take_position(&mut self, above: Index, part: usize, fields: u8) -> Index {
+        let index = self.free.pop().unwrap_or_else(|| {
+            self.positions.push(Position::UNUSED);
+            (self.positions.len() - 1) as Index
+        });
+        let position = &mut self.positions[index as usize];
+        position.part = part;
+        position.fields = fields;
+        position.above = above;
+        index
+    }
+
+    fn take_position_on_same_set(&mut self, above: Index, part: usize) -> Index {
+        let index = self.take_position(above, part, self.positions[above as usize].fields);
+        self.copy_set(above, index);
+        index
+    }
+
+    fn copy_set(&mut self, from: Index, to: Index) {
+        let [from, to] = self.two_sets(from, to);
+        to.copy_from(from);
+    }
+
+    fn two_sets(&mut self, first: Index, second: Index) -> [&mut Set; 2] {
+        let two = self.positions.get_disjoint_mut([first as usize, second as usize]);
+        two.expect("two positions").map(|position| &mut position.set)
     }
 }

@@ -1,8 +1,12 @@
 //! Sets of at most 16 packets, no two equal, ascending.
 //!
-//! A set is a fixed array with a count.
+//! A set is a fixed array with a count. A `Vec<[u16; 8]>` was measured beside it, under the same
+//! evaluator: on a small typical book 450 ns a call against 265, on 16 packets 640 against 480, on
+//! nested concurrent parts 3,730 against 1,430, with n near 1,023 about the same. A sum, a negation and
+//! each side of a concurrent part make a set, and asking for memory costs more than copying 256 bytes.
 
 use crate::answers::{MOST_FIELDS, MOST_PACKETS};
+use std::cmp::Ordering;
 
 /// The fields a book or a position lacks hold 0, so that comparing whole arrays passes them over.
 pub type Packet = [u16; MOST_FIELDS];
@@ -55,6 +59,11 @@ impl Set {
         set
     }
 
+    pub fn become_one(&mut self, packet: Packet) {
+        self.packets[0] = packet;
+        self.count = 1;
+    }
+
     pub fn packets(&self) -> &[Packet] {
         &self.packets[..self.count]
     }
@@ -81,23 +90,32 @@ impl Set {
 
     /// Set: every packet with the field changed. The order may change, and packets may become equal.
     pub fn write(&mut self, field: usize, value: u16) {
-        let before = self.count;
-        self.count = 0;
-        for i in 0..before {
-            let mut packet = self.packets[i];
+        for packet in &mut self.packets[..self.count] {
             packet[field] = value;
-            // Never too wide: the packets written so far are at most those read so far.
-            let _ = self.insert(packet);
+        }
+        if !self.packets().is_sorted_by(|lower, higher| lower < higher) {
+            self.restore_order();
+        }
+    }
+
+    /// Puts the packets into order and merges equal ones.
+    fn restore_order(&mut self) {
+        let before = self.count;
+        self.count = 1;
+        for i in 1..before {
+            // Never too wide: the packets put in so far are at most those read so far.
+            let _ = self.insert(self.packets[i]);
         }
     }
 
     pub fn insert(&mut self, packet: Packet) -> Result<(), TooWide> {
         let mut place = self.count;
-        while place > 0 && self.packets[place - 1] >= packet {
-            place -= 1;
-        }
-        if place < self.count && self.packets[place] == packet {
-            return Ok(());
+        while place > 0 {
+            match self.packets[place - 1].cmp(&packet) {
+                Ordering::Less => break,
+                Ordering::Equal => return Ok(()),
+                Ordering::Greater => place -= 1,
+            }
         }
         if self.count == MOST_PACKETS {
             return Err(TooWide);
@@ -136,23 +154,17 @@ impl Set {
         Ok(())
     }
 
-    pub fn union(p: &Set, q: &Set) -> Result<Set, TooWide> {
-        let mut union = *p;
-        union.add_all(q)?;
-        Ok(union)
+    /// Becomes a copy of the other set; only the packets there are get copied.
+    pub fn copy_from(&mut self, other: &Set) {
+        self.packets[..other.count].copy_from_slice(other.packets());
+        self.count = other.count;
     }
 
-    pub fn pairings(p: &Set, q: &Set, right: u8) -> Result<Set, TooWide> {
-        let mut pairings = Set::EMPTY;
-        pairings.add_pairings(p, q, right)?;
-        Ok(pairings)
-    }
-
-    /// The lowest packet, and the rest. There must be a packet.
-    pub fn split_lowest(&self) -> (Set, Set) {
-        let mut rest = *self;
-        rest.packets.copy_within(1..self.count, 0);
-        rest.count -= 1;
-        (Set::one(self.packets[0]), rest)
+    /// Takes the lowest packet out. There must be one.
+    pub fn take_lowest(&mut self) -> Packet {
+        let lowest = self.packets[0];
+        self.packets.copy_within(1..self.count, 0);
+        self.count -= 1;
+        lowest
     }
 }

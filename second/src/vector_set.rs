@@ -1,13 +1,16 @@
 //! Which vectors are made from a seed: the edges of inputs, buffers, schedules and books first, then
 //! random ones.
 
-use crate::answers::{MOST_FIELDS, WORK_WORDS};
+use crate::answers::*;
 use crate::edges::{self, Edge};
 use crate::generate::*;
-use crate::policy::{book_of, sequence, set, sum};
+use crate::policy::{balanced, book_of, sequence, set, sum, write_book, Entry, Policy};
 use crate::rng::Rng;
+use crate::run;
 use crate::vectors::Vector;
 
+/// Random books are shorter than this.
+const LONG_BOOK: usize = 600;
 /// Schedules of this length or more are written by rule.
 const LONG_SCHEDULE: usize = 48;
 
@@ -122,8 +125,18 @@ fn printer_edges(rng: &mut Rng) -> Vec<Vector> {
 }
 
 fn random_vector(rng: &mut Rng) -> Vector {
-    let sound = sound_book_of_moderate_length(rng);
-    let book = if rng.chance(20) { damaged(rng, &sound) } else { sound };
+    let book = match rng.below(10) {
+        0 | 1 => {
+            let sound = sound_book_of_moderate_length(rng);
+            damaged(rng, &sound)
+        }
+        2 => {
+            let number = *rng.pick(&[TYPING, UNPOPULATED, TOO_WIDE, TOO_ROOMY]);
+            book_refused_by(rng, number)
+        }
+        3 if rng.chance(30) => book_about_too_large(rng),
+        _ => sound_book_of_moderate_length(rng),
+    };
     let fields = book.first().map_or(1, |k| (*k as usize).clamp(1, MOST_FIELDS));
     let packet = random_packet(rng, fields);
     let length = schedule_length(rng, steps_of(&book, &packet));
@@ -136,16 +149,51 @@ fn random_vector(rng: &mut Rng) -> Vector {
         0 => vector.result_words = vector.result_words.min(16 * fields as u16) - 1,
         1 => vector.work_words = WORK_WORDS as u16 - 1,
         2 => vector.packet_words -= 1,
+        3 => cut_packet(rng, &mut vector, 2 + book.len(), fields),
+        4 => vector.tail_length = (MOST_SCHEDULE + 1 + rng.below(100)) as u16,
         _ => {}
     }
     vector
+}
+
+/// Ends the input inside the packet, which begins at `start`.
+fn cut_packet(rng: &mut Rng, vector: &mut Vector, start: usize, fields: usize) {
+    let left = rng.below(2 * fields);
+    vector.head.truncate(start + left);
+    vector.tail_length = 0;
+    vector.packet_words = (left / 2) as u8;
+}
+
+/// A table used often, with n a little under or over 1,023.
+fn book_about_too_large(rng: &mut Rng) -> Vec<u8> {
+    let leaves = rng.between(10, 60);
+    let in_table = 2 * leaves - 1;
+    // So many uses and the sequences between them make uses·(in_table + 2) - 1 parts.
+    let uses = (MOST_PARTS + 1) / (in_table + 2) + rng.below(2);
+    let table = balanced(sequence, &vec![set(0, 1); leaves]);
+    let main = balanced(sequence, &vec![Policy::Table(1); uses]);
+    write_book(1, &[Entry::new(0, 1, &main), Entry::new(0, 1, &table)])
+}
+
+/// Of many books, sound or damaged, the first that a run on the packet of zeroes refuses by this number.
+fn book_refused_by(rng: &mut Rng, number: u8) -> Vec<u8> {
+    loop {
+        let sound = sound_book(rng);
+        let book = if number == TYPING { damaged(rng, &sound) } else { sound };
+        let packet = vec![0; book[0] as usize];
+        let (mut result, mut work) = (vec![0; 16 * packet.len()], vec![0; WORK_WORDS]);
+        let ran = run(&book, &packet, &[], &mut result, &mut work);
+        if matches!(ran, Ran::Refused(refusal) if refusal.number == number) && book.len() < LONG_BOOK {
+            return book;
+        }
+    }
 }
 
 /// Vectors are kept in a file: books of many hundred bytes are left to the comparing of programs.
 fn sound_book_of_moderate_length(rng: &mut Rng) -> Vec<u8> {
     loop {
         let book = sound_book(rng);
-        if book.len() < 600 {
+        if book.len() < LONG_BOOK {
             return book;
         }
     }

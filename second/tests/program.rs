@@ -1,0 +1,78 @@
+//! The program's subcommands, and the format of the vectors.
+
+use second::vector_set::{make, tally};
+use second::vectors::{pattern, read_file, tail, write_file};
+use std::io::Write;
+use std::process::{Command, Output, Stdio};
+
+fn second(arguments: &[&str], input: &[u8]) -> Output {
+    let mut child = Command::new(env!("CARGO_BIN_EXE_second"))
+        .args(arguments)
+        .stdin(Stdio::piped())
+        .stdout(Stdio::piped())
+        .stderr(Stdio::piped())
+        .spawn()
+        .expect("the program starts");
+    child.stdin.take().expect("a pipe").write_all(input).expect("the input is read");
+    child.wait_with_output().expect("the program ends")
+}
+
+#[test]
+fn print_prints_the_example() {
+    let book = [2, 0, 0, 0x0B, 0, 3, 7, 1, 2, 3, 0, 0, 1, 3, 1, 0, 2];
+    let input = [&[0, 0x11][..], &book, &[0, 5, 0, 9, 0, 0, 0, 0]].concat();
+    assert_eq!(second(&["print"], &input).stdout, b"finished 4 1\n1 2\n");
+}
+
+#[test]
+fn vectors_are_the_same_for_the_same_seed_and_read_back() {
+    let vectors = make(7, 600);
+    let file = write_file(&vectors);
+    assert_eq!(file, second(&["vectors", "7", "600"], &[]).stdout);
+    assert!(file.len() < 300_000, "{} bytes", file.len());
+    let read = read_file(&file).expect("the format is kept");
+    assert_eq!(read.len(), 600);
+    for (vector, (read_vector, expected)) in vectors.iter().zip(&read) {
+        assert_eq!(vector, read_vector);
+        let mut answers = Vec::new();
+        vector.answers().write(&mut answers);
+        assert_eq!(&answers, expected);
+    }
+    assert!(read_file(&file[..file.len() - 1]).is_none());
+    assert!(read_file(&[&file[..], &[0]].concat()).is_none());
+}
+
+#[test]
+fn vectors_give_every_number_many_times() {
+    let [accept, evaluate, run, print] = tally(&make(1, 600));
+    let often = |numbers: &[usize; 15], which: &[usize]| which.iter().all(|number| numbers[*number] >= 9);
+    assert!(often(&accept, &[1, 2, 3, 4, 5, 6, 7]), "{accept:?}");
+    assert!(often(&evaluate, &[8, 9, 10, 12]), "{evaluate:?}");
+    assert!(often(&run, &[8, 9, 10, 11, 12]), "{run:?}");
+    assert!(often(&print, &[1, 2, 3, 4, 5, 6, 7, 8, 9, 10, 11, 14]), "{print:?}");
+    assert_eq!(run[13] + evaluate[13] + print[13], 0);
+    assert!(accept[0] > 250 && run[0] > 200, "most random books are accepted and run");
+}
+
+/// The rules as README.md tells them, with the first values worked out by hand.
+#[test]
+fn tails_and_patterns_by_rule() {
+    // 257, then 257·25,173 + 13,849 mod 65,536 = 60,782 = 237·256 + 110.
+    assert_eq!(tail(1, 1), [237]);
+    assert_eq!(tail(2, 0)[0], (13_849_u16 >> 8) as u8);
+    assert_eq!(pattern(3, 2), [515, 41_018, (2 * 40_503 + 515 - 65_536) as u16]);
+}
+
+#[test]
+fn comparing_finds_differences_and_says_so() {
+    let output = second(&["compare", "cat", "1", "20"], &[]);
+    assert_eq!(output.status.code(), Some(1));
+    let text = String::from_utf8(output.stdout).expect("text");
+    assert!(text.ends_with("20 inputs, 20 differ\n"), "{text}");
+}
+
+#[test]
+fn wrong_use_is_told() {
+    assert_eq!(second(&["vectors", "x", "1"], &[]).status.code(), Some(2));
+    assert_eq!(second(&[], &[]).status.code(), Some(2));
+}
