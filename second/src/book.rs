@@ -52,7 +52,7 @@ pub fn read(bytes: &[u8]) -> Result<Book<'_>, Refusal> {
     }
     let fields = bytes[0] as usize;
     let tables = bytes[1] as usize;
-    if fields < 1 || fields > MOST_FIELDS || tables > MOST_TABLES {
+    if !(1..=MOST_FIELDS).contains(&fields) || tables > MOST_TABLES {
         return Err(Refusal::plain(HEADER));
     }
     let bodies = read_contents(bytes, tables).ok_or(Refusal::plain(LENGTHS))?;
@@ -226,7 +226,7 @@ impl BodyReader<'_> {
     fn table_use(&mut self, concurrent_above: usize) -> Result<Masks, Refusal> {
         let place = self.at;
         let x = self.byte()? as usize;
-        if x < 1 || x > self.tables {
+        if !(1..=self.tables).contains(&x) {
             return Err(Refusal::at(FORM, place));
         }
         self.findings.uses[x] += 1;

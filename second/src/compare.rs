@@ -58,11 +58,8 @@ fn compare_one(program: &str, number: u64, input: Vec<u8>) -> io::Result<Option<
 
 /// The inputs are shorter than what a pipe holds, so writing all before reading never waits for ever.
 fn output_of(program: &str, input: &[u8]) -> io::Result<Output> {
-    let mut child = Command::new(program)
-        .stdin(Stdio::piped())
-        .stdout(Stdio::piped())
-        .stderr(Stdio::null())
-        .spawn()?;
+    let mut child =
+        Command::new(program).stdin(Stdio::piped()).stdout(Stdio::piped()).stderr(Stdio::null()).spawn()?;
     let mut stdin = child.stdin.take().expect("its input is a pipe");
     // A program may answer before it has read everything.
     let _ = stdin.write_all(input);

@@ -32,6 +32,7 @@ pub fn all() -> Vec<Edge> {
         tables(),
         headers(),
         sizes(),
+        many_steps(),
     ];
     groups.into_iter().flatten().collect()
 }
@@ -119,9 +120,8 @@ pub fn drops(count: usize) -> Policy {
 }
 
 fn rooms_about_160() -> Vec<Edge> {
-    let split_room = |packets: u16, leaves: usize| {
-        sequence(to_each(0, packets), beside(1, 2, drops(leaves), Policy::Id))
-    };
+    let split_room =
+        |packets: u16, leaves: usize| sequence(to_each(0, packets), beside(1, 2, drops(leaves), Policy::Id));
     let mains = [
         drops(80),
         sequence(drops(80), Policy::Id),
@@ -149,7 +149,9 @@ fn ids(count: usize) -> Policy {
 fn parts_about_1023() -> Vec<Edge> {
     let mut edges = vec![two_fields(&ids(512)), two_fields(&not(ids(512)))];
     // With a table of t parts used u times: u + u·t + (u - 1) parts.
-    for (uses, leaves, negated) in [(2, 255, false), (2, 256, false), (32, 16, false), (32, 16, true), (31, 16, true)] {
+    for (uses, leaves, negated) in
+        [(2, 255, false), (2, 256, false), (32, 16, false), (32, 16, true), (31, 16, true)]
+    {
         let main = balanced(sequence, &vec![Policy::Table(1); uses]);
         let table = if negated { not(ids(leaves)) } else { ids(leaves) };
         edges.push(edge(write_book(1, &[Entry::new(0, 1, &main), Entry::new(0, 0, &table)]), &[1]));
@@ -325,7 +327,8 @@ fn tables() -> Vec<Edge> {
     edges.push(edge(book_of(1, &sequence(to_each(0, 17), drops(81))), &[1]));
     // A table body inside the concurrent parts of the main policy.
     let main = beside(1, 2, Policy::Table(1), Policy::Table(2));
-    let entries = [Entry::new(0, 7, &main), Entry::new(4, 1, &to_each(0, 4)), Entry::new(4, 2, &to_each(1, 4))];
+    let entries =
+        [Entry::new(0, 7, &main), Entry::new(4, 1, &to_each(0, 4)), Entry::new(4, 2, &to_each(1, 4))];
     edges.push(edge(write_book(3, &entries), &[9, 9, 9]));
     edges
 }
@@ -335,7 +338,7 @@ fn headers() -> Vec<Edge> {
     let mut edges = Vec::new();
     for fields in [0, 1, 2, 3, 4, 5, 6, 7, 8, 9, 255] {
         let all = all_fields((fields as usize).clamp(1, 8));
-        let last = (fields as u8).clamp(1, 8) - 1;
+        let last = fields.clamp(1, 8) - 1;
         let entry = Entry::new(0, all, &sum(set(last, 65_535), set(0, 256)));
         edges.push(edge(write_book(fields, &[entry]), &vec![3; (fields as usize).clamp(1, 8)]));
     }
@@ -359,7 +362,7 @@ fn headers() -> Vec<Edge> {
 
 /// A policy of exactly so many bytes, of depth well under 32, and a predicate.
 fn of_length(length: usize) -> Policy {
-    if length % 2 == 0 {
+    if length.is_multiple_of(2) {
         not(of_length(length - 1))
     } else {
         ids(length / 2 + 1)
@@ -385,4 +388,23 @@ fn sizes() -> Vec<Edge> {
     }
     edges.push(edge([&example[..], &[0]].concat(), &[5, 9]));
     edges
+}
+
+/// A field spread to 16 packets, a concurrent part that spreads the next one, and so on down; each
+/// field is put back, so that no set is wider.
+fn spread_and_put_back(field: u8, fields: u8) -> Policy {
+    let inside = if field + 1 == fields {
+        Policy::Drop
+    } else {
+        let later = all_fields(fields as usize) & !all_fields(field as usize + 1);
+        beside(1 << field, later, Policy::Id, spread_and_put_back(field + 1, fields))
+    };
+    sequence(to_each(field, 16), sequence(inside, set(field, 0)))
+}
+
+/// Numbers of steps and rooms far over 65,535, each answered by the evaluator and refused as a run.
+fn many_steps() -> Vec<Edge> {
+    (2..=5)
+        .map(|fields| edge(book_of(fields, &spread_and_put_back(0, fields)), &vec![1; fields as usize]))
+        .collect()
 }

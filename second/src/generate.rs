@@ -114,10 +114,9 @@ impl Maker<'_> {
         match self.rng.below(5) {
             0 => not(self.predicate(parts - 1, fields, depth - 1)),
             1 | 2 => sum(self.predicate(first, fields, depth - 1), self.predicate(second, fields, depth - 1)),
-            _ => sequence(
-                self.predicate(first, fields, depth - 1),
-                self.predicate(second, fields, depth - 1),
-            ),
+            _ => {
+                sequence(self.predicate(first, fields, depth - 1), self.predicate(second, fields, depth - 1))
+            }
         }
     }
 
@@ -184,11 +183,8 @@ pub fn sound_book(rng: &mut Rng) -> Vec<u8> {
     let all = all_fields(fields);
     let table_count = if rng.chance(45) { rng.below(5) } else { rng.below(16) * rng.below(2) };
     let values = rng.between(2, 5);
-    let main = if rng.chance(60) {
-        Declared { readable: 0, writable: all }
-    } else {
-        random_declaration(rng, all)
-    };
+    let main =
+        if rng.chance(60) { Declared { readable: 0, writable: all } } else { random_declaration(rng, all) };
     let tables: Vec<Declared> = (0..table_count).map(|_| random_table_declaration(rng, all)).collect();
     let size = random_size(rng);
     let unpopulated_percent = if rng.chance(12) { 40 } else { 0 };
@@ -209,8 +205,13 @@ pub fn sound_book(rng: &mut Rng) -> Vec<u8> {
 fn body(maker: &mut Maker, declared: Declared, size: usize, is_main: bool) -> Entry {
     let Declared { readable, writable } = declared;
     let concurrency = if is_main { 3 } else { 1 };
-    let allowed =
-        Allowed { test: readable | writable, write: writable, concurrency, depth: MOST_DEPTH, tables: is_main };
+    let allowed = Allowed {
+        test: readable | writable,
+        write: writable,
+        concurrency,
+        depth: MOST_DEPTH,
+        tables: is_main,
+    };
     Entry::new(readable, writable, &maker.policy(size, allowed))
 }
 

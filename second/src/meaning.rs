@@ -23,10 +23,9 @@ pub fn meaning(policy: &Policy, tables: &[Option<Policy>], packet: &Packet) -> B
             union.extend(meaning(q, tables, packet));
             union
         }
-        Policy::Sequence(p, q) | Policy::Beside(_, _, p, q) => meaning(p, tables, packet)
-            .iter()
-            .flat_map(|between| meaning(q, tables, between))
-            .collect(),
+        Policy::Sequence(p, q) | Policy::Beside(_, _, p, q) => {
+            meaning(p, tables, packet).iter().flat_map(|between| meaning(q, tables, between)).collect()
+        }
         Policy::Table(x) => {
             let body = tables[*x as usize].as_ref().expect("the table is populated");
             meaning(body, tables, packet)

@@ -180,3 +180,22 @@ fn accepting_says_what_reading_found() {
         assert_eq!(second::accept(book.bytes), Verdict::Accepted(book.shape));
     });
 }
+
+/// Steps and room of the largest book at the edges, worked out from the rules for N and the room.
+#[test]
+fn steps_and_rooms_far_over_65535() {
+    let edges = second::edges::all();
+    let largest = &edges[edges.len() - 1];
+    let mut result = [0; 80];
+    let evaluated = evaluate(&largest.book, &largest.packet, &mut result);
+    // A level spreads by 16 sets under 15 sums, then has two sequences and the set back.
+    let (mut steps, mut room) = (46 + 3 + 1, 32);
+    for _ in 1..5 {
+        steps = 46 + 3 + 16 * (steps + 2) + 30;
+        room = 32.max(16 * (room + 2) + 15 + 1);
+    }
+    let Evaluated::Given { steps: found_steps, room: found_room, .. } = evaluated else {
+        panic!("{evaluated:?}")
+    };
+    assert_eq!((found_steps, found_room), (steps, room));
+}

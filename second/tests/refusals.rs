@@ -130,7 +130,8 @@ fn sizes_count_under_each_use() {
     // Never used, it has no such limit.
     assert!(is_accepted(&with_table(&[0], &table_of(1000))));
     assert!(is_accepted(&with_table(&[0], &nested_beside(9).bytes())));
-    let three_above = |x: Policy| beside(0, 0, beside(0, 0, beside(0, 0, x, Policy::Id), Policy::Id), Policy::Id);
+    let three_above =
+        |x: Policy| beside(0, 0, beside(0, 0, beside(0, 0, x, Policy::Id), Policy::Id), Policy::Id);
     let wide = |table: &Policy| {
         let main = Entry::new(0, 3, &three_above(Policy::Table(1)));
         write_book(2, &[main, Entry::new(0, 0, table)])
