@@ -342,7 +342,7 @@ fn headers() -> Vec<Edge> {
         let entry = Entry::new(0, all, &sum(set(last, 65_535), set(0, 256)));
         edges.push(edge(write_book(fields, &[entry]), &vec![3; (fields as usize).clamp(1, 8)]));
     }
-    for count in [0, 1, 8, 15] {
+    for count in 0..=15 {
         let mut entries = vec![Entry::new(0, 1, &Policy::Drop)];
         entries.extend((0..count).map(|_| Entry::unpopulated(1, 0)));
         edges.push(edge(write_book(1, &entries), &[0]));

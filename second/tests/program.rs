@@ -76,3 +76,24 @@ fn wrong_use_is_told() {
     assert_eq!(second(&["vectors", "x", "1"], &[]).status.code(), Some(2));
     assert_eq!(second(&[], &[]).status.code(), Some(2));
 }
+
+/// The rows of the benchmark are what their names say.
+#[test]
+fn benchmark_cases_have_the_rooms_and_sizes_they_name() {
+    let given = |case: &second::bench::Case| {
+        let mut result = [0; 128];
+        match second::evaluate(&case.book, &case.packet, &mut result) {
+            second::Evaluated::Given { count, parts, concurrency, room, .. } => {
+                (count, parts, concurrency, room)
+            }
+            refused => panic!("{}: {refused:?}", case.name),
+        }
+    };
+    let rooms: Vec<u64> = second::bench::run_cases().iter().map(|case| given(case).3).collect();
+    assert_eq!(rooms, [3, 20, 160]);
+    let cases = second::bench::cases();
+    assert_eq!(given(&cases[0]).0, 1);
+    assert_eq!(given(&cases[1]).0, 16);
+    assert_eq!(given(&cases[2]).2, 3);
+    assert!(given(&cases[3]).1 > 1000, "n is {}", given(&cases[3]).1);
+}
