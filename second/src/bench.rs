@@ -152,7 +152,8 @@ pub fn time_run(case: &Case, steps: usize) -> f64 {
     })
 }
 
-/// All times of this program.
+/// All times of this program. "The steps alone" is the difference of two measured times, and so less
+/// steady than the others on a busy machine.
 pub fn rows() -> Vec<Row> {
     let mut rows = Vec::new();
     let mut add = |name: String, nanoseconds: f64, unit| rows.push(Row { name, nanoseconds, unit });
