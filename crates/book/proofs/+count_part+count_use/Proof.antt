@@ -1,0 +1,194 @@
+-- The count of a part and of a use meet their contracts; the measure is the budget, which falls at every part. Assumes nothing.
+use native.Mathlib.Omega.{arith}
+use lib.ListN.{getD}
+use Rattle.book.proofs.PlaceLaws.{after-zero, after-end, operands-few}
+use Rattle.book.proofs.CodeLaws.{part-zero, part-end}
+use Rattle.book.proofs.CountLaws.{count-none, count-id, count-table, count-leaf, count-few, count-left-over, count-one, count-right-over, count-both}
+use Rattle.book.proofs.CountLaws.{use-none, use-open, use-over, use-fits}
+use borrow.Author.Needs.{needs}
+use Prim.Native.Nat.{ℕ, _+_, _*_, _<_}
+use borrow.Fn.Kinds.{In}
+use borrow.Fn.PlainCycle.{Measures, is, falls, and}
+use Rattle.book.proofs.count_part.Reads as count-part
+use Rattle.book.proofs.count_part.Kinds as count-part-kinds
+use Rattle.book.proofs.+count_part+count_use.Lts-count_part as count-part-lts
+use Rattle.book.proofs.count_use.Reads as count-use
+use Rattle.book.proofs.count_use.Kinds as count-use-kinds
+use Rattle.book.proofs.+count_part+count_use.Lts-count_use as count-use-lts
+use Rattle.book.proofs.body_start.Reads as body-start-reads
+use Rattle.book.proofs.byte_at.Reads as byte-at-reads
+use Rattle.book.proofs.count_two.Reads as count-two-reads
+use Rattle.book.proofs.length_of.Reads as length-of-reads
+use Rattle.book.proofs.one_part.Reads as one-part-reads
+use Rattle.rules.proofs.shape_of.Reads as shape-of-reads
+use Rattle.book.proofs.+count_part+count_use.{statement}
+use Rattle.book.proofs.+count_part+count_use.Tie.{close}
+
+abbrev μ-count-part : Measures 1 count-part-kinds.ps ℕ
+μ-count-part κs a = 2 * a .1 .1 .1 .1 .0 + 1
+
+abbrev μ-count-use : Measures 1 count-use-kinds.ps ℕ
+μ-count-use κs a = 2 * a .1 .1 .1 .1 .0
+
+abbrev count-part-at : ℕ → In 1 count-part-kinds.ps
+count-part-at t =
+    and 1 count-part-kinds.ps (is 1 count-part-kinds.ps μ-count-part t) count-part.Pre
+
+abbrev count-part-below : ℕ → In 1 count-part-kinds.ps
+count-part-below t =
+    and 1 count-part-kinds.ps (falls 1 count-part-kinds.ps _<_ μ-count-part t) count-part.Pre
+
+abbrev count-use-at : ℕ → In 1 count-use-kinds.ps
+count-use-at t = and 1 count-use-kinds.ps (is 1 count-use-kinds.ps μ-count-use t) count-use.Pre
+
+abbrev count-use-below : ℕ → In 1 count-use-kinds.ps
+count-use-below t =
+    and 1 count-use-kinds.ps (falls 1 count-use-kinds.ps _<_ μ-count-use t) count-use.Pre
+
+abbrev count-part-calls : ℕ → count-part-lts.Claims
+count-part-calls t = (
+  one-part-reads.Asked,
+  one-part-reads.Learnt,
+  shape-of-reads.Asked,
+  shape-of-reads.Learnt,
+  byte-at-reads.Asked,
+  byte-at-reads.Learnt,
+  count-use-below t,
+  count-use.Post,
+  count-part-below t,
+  count-part.Post,
+  count-two-reads.Asked,
+  count-two-reads.Learnt,
+)
+
+count-part-returns : (t : ℕ) → count-part-lts.Need-returns (count-part-calls t) (count-part-at t) count-part.Post
+count-part-returns t c = count-none _ _ _ _ _ (c .if1 .taken)
+
+count-part-returns-2 : (t : ℕ) → count-part-lts.Need-returns-2 (count-part-calls t) (count-part-at t) count-part.Post
+count-part-returns-2 t c = count-id _ _ _ _ _ _ _ (c .before .before .if1 .left) (part-zero _ _ _ _ (c .before .if2 .taken)) (after-zero _ _ _ (c .before .if2 .taken)) (c .one-part .ensures)
+
+count-part-returns-3 : (t : ℕ) → count-part-lts.Need-returns-3 (count-part-calls t) (count-part-at t) count-part.Post
+count-part-returns-3 t c = count-id _ _ _ _ _ _ _ (c .before .before .before .if1 .left) (part-end _ _ _ _ (c .before .if3 .taken)) (after-end _ _ _ (c .before .if3 .taken)) (c .one-part2 .ensures)
+
+count-part-add-from-2 : (t : ℕ) → count-part-lts.Need-add-from-2 (count-part-calls t) (count-part-at t) count-part.Post
+count-part-add-from-2 t c = omega (arith, operands-few (getD (c .before .before .before .before .before .before .before .args .book .now) (c .before .before .before .before .before .before .before .args .at) 0) _ (c .before .shape-of .ensures), c .before .before .before .before .before .before .before .good .0 .1, c .before .before .before .if3 .left)
+
+count-part-count-use-requires : (t : ℕ) → count-part-lts.Need-count-use-requires (count-part-calls t) (count-part-at t) count-part.Post
+count-part-count-use-requires t c κs = (omega (arith, c .before .before .before .before .before .before .before .before .before .pre .0, c .before .before .before .before .before .before .before .if1 .left), (omega (arith, c .before .before .before .before .before .before .before .if1 .left), c .before .before .before .before .before .before .before .before .before .pre .1))
+
+count-part-returns-4 : (t : ℕ) → count-part-lts.Need-returns-4 (count-part-calls t) (count-part-at t) count-part.Post
+count-part-returns-4 t c = count-table _ _ _ _ _ (c .before .before .before .before .before .before .before .before .if1 .left) (c .before .before .before .before .before .before .before .if2 .left) (c .before .before .before .before .before .before .if3 .left) _ (c .before .before .before .before .shape-of .ensures) _ _ (c .before .before .if4 .taken) (c .before .byte-at .ensures) (c .count-use .ensures)
+
+count-part-returns-5 : (t : ℕ) → count-part-lts.Need-returns-5 (count-part-calls t) (count-part-at t) count-part.Post
+count-part-returns-5 t c = count-leaf _ _ _ _ _ (c .before .before .before .before .before .before .before .before .if1 .left) (c .before .before .before .before .before .before .before .if2 .left) (c .before .before .before .before .before .before .if3 .left) _ (c .before .before .before .before .shape-of .ensures) _ (c .before .before .if4 .left) (c .before .if5 .taken) (c .one-part3 .ensures)
+
+count-part-count-part-requires : (t : ℕ) → count-part-lts.Need-count-part-requires (count-part-calls t) (count-part-at t) count-part.Post
+count-part-count-part-requires t c κs = (omega (arith, c .before .before .before .before .before .before .before .before .before .pre .0, c .before .before .before .before .before .before .before .if1 .left), omega (arith, c .before .before .before .before .before .before .before .before .before .pre .1))
+
+count-part-returns-6 : (t : ℕ) → count-part-lts.Need-returns-6 (count-part-calls t) (count-part-at t) count-part.Post
+count-part-returns-6 t c = count-left-over _ _ _ _ _ (c .before .before .before .before .before .before .before .before .before .before .if1 .left) (c .before .before .before .before .before .before .before .before .before .if2 .left) (c .before .before .before .before .before .before .before .before .if3 .left) _ (c .before .before .before .before .before .before .shape-of .ensures) (c .before .before .before .if5 .left) _ (c .before .before .count-part .ensures) (c .enum-told .given .1)
+
+count-part-add-t22 : (t : ℕ) → count-part-lts.Need-add-t22 (count-part-calls t) (count-part-at t) count-part.Post
+count-part-add-t22 t c = omega (arith, count-few _ _ _ _ _ (c .before .before .before .before .before .count-part .ensures) (c .before .before .before .left .given .1) .0, c .before .before .before .before .before .before .before .before .before .before .before .before .before .before .before .pre .1)
+
+count-part-returns-7 : (t : ℕ) → count-part-lts.Need-returns-7 (count-part-calls t) (count-part-at t) count-part.Post
+count-part-returns-7 t c = count-one _ _ _ _ _ (c .before .before .before .before .before .before .before .before .before .before .before .before .before .if1 .left) (c .before .before .before .before .before .before .before .before .before .before .before .before .if2 .left) (c .before .before .before .before .before .before .before .before .before .before .before .if3 .left) _ (c .before .before .before .before .before .before .before .before .before .shape-of .ensures) (c .before .before .before .before .before .before .if5 .left) _ (c .before .before .before .before .before .count-part .ensures) _ (c .before .before .before .left .given .1) (c .before .if6 .taken)
+
+count-part-sub-count-part-5 : (t : ℕ) → count-part-lts.Need-sub-count-part-5 (count-part-calls t) (count-part-at t) count-part.Post
+count-part-sub-count-part-5 t c = omega (arith, count-few _ _ _ _ _ (c .before .before .before .before .before .count-part .ensures) (c .before .before .before .left .given .1) .0)
+
+count-part-count-part-requires-2 : (t : ℕ) → count-part-lts.Need-count-part-requires-2 (count-part-calls t) (count-part-at t) count-part.Post
+count-part-count-part-requires-2 t c κs = (omega (arith, c .before .before .before .before .before .before .before .before .before .before .before .before .before .before .before .pre .0, c .before .before .before .before .before .before .before .before .before .before .before .before .before .if1 .left), omega (arith, c .before .before .before .before .before .before .before .before .before .before .before .before .before .before .before .pre .1))
+
+count-part-returns-8 : (t : ℕ) → count-part-lts.Need-returns-8 (count-part-calls t) (count-part-at t) count-part.Post
+count-part-returns-8 t c = count-right-over _ _ _ _ _ (c .before .before .before .before .before .before .before .before .before .before .before .before .before .before .before .before .if1 .left) (c .before .before .before .before .before .before .before .before .before .before .before .before .before .before .before .if2 .left) (c .before .before .before .before .before .before .before .before .before .before .before .before .before .before .if3 .left) _ (c .before .before .before .before .before .before .before .before .before .before .before .before .shape-of .ensures) (c .before .before .before .before .before .before .before .before .before .if5 .left) _ (c .before .before .before .before .before .before .before .before .count-part .ensures) _ (c .before .before .before .before .before .before .left .given .1) (c .before .before .before .before .if6 .left) _ (c .before .before .count-part2 .ensures) (c .enum-told2 .given .1)
+
+count-part-count-two-requires : (t : ℕ) → count-part-lts.Need-count-two-requires (count-part-calls t) (count-part-at t) count-part.Post
+count-part-count-two-requires t c κs =
+    let l = count-few _ _ _ _ _ (c .before .before .before .before .before .before .before .before .before .count-part .ensures) (c .before .before .before .before .before .before .before .left .given .1) in
+    let r = count-few _ _ _ _ _ (c .before .before .before .count-part2 .ensures) (c .before .right .given .1) in
+    (omega (arith, c .before .before .before .before .before .before .before .before .before .before .before .before .before .before .before .before .before .before .before .pre .1, c .before .before .before .before .before .before .before .before .before .before .before .before .before .before .before .before .before .if1 .left), l .1, r .1)
+
+count-part-returns-9 : (t : ℕ) → count-part-lts.Need-returns-9 (count-part-calls t) (count-part-at t) count-part.Post
+count-part-returns-9 t c = count-both _ _ _ _ _ (c .before .before .before .before .before .before .before .before .before .before .before .before .before .before .before .before .before .before .if1 .left) (c .before .before .before .before .before .before .before .before .before .before .before .before .before .before .before .before .before .if2 .left) (c .before .before .before .before .before .before .before .before .before .before .before .before .before .before .before .before .if3 .left) _ (c .before .before .before .before .before .before .before .before .before .before .before .before .before .before .shape-of .ensures) (c .before .before .before .before .before .before .before .before .before .before .before .if5 .left) _ (c .before .before .before .before .before .before .before .before .before .before .count-part .ensures) _ (c .before .before .before .before .before .before .before .before .left .given .1) (c .before .before .before .before .before .before .if6 .left) _ (c .before .before .before .before .count-part2 .ensures) _ _ (c .before .before .right .given .1) (c .count-two .ensures)
+
+abbrev count-use-calls : ℕ → count-use-lts.Claims
+count-use-calls t = (
+  length-of-reads.Asked,
+  length-of-reads.Learnt,
+  one-part-reads.Asked,
+  one-part-reads.Learnt,
+  body-start-reads.Asked,
+  body-start-reads.Learnt,
+  count-part-below t,
+  count-part.Post,
+)
+
+count-use-returns : (t : ℕ) → count-use-lts.Need-returns (count-use-calls t) (count-use-at t) count-use.Post
+count-use-returns t c = use-open _ _ _ _ _ (c .before .before .before .before .before .pre .1 .0) (c .before .before .before .if1 .taken) _ (c .before .before .length-of .ensures .0) _ (c .before .if2 .taken) (c .one-part .ensures)
+
+count-use-count-part-requires : (t : ℕ) → count-use-lts.Need-count-part-requires (count-use-calls t) (count-use-at t) count-use.Post
+count-use-count-part-requires t c κs = (omega (arith, c .before .before .before .before .before .pre .0), omega (arith, c .before .before .before .before .before .pre .1 .1))
+
+count-use-returns-2 : (t : ℕ) → count-use-lts.Need-returns-2 (count-use-calls t) (count-use-at t) count-use.Post
+count-use-returns-2 t c = use-over _ _ _ _ _ (c .before .before .before .before .before .before .before .before .pre .1 .0) (c .before .before .before .before .before .before .if1 .taken) _ (c .before .before .before .before .before .length-of .ensures .0) (c .before .before .before .before .if2 .left) _ (c .before .before .before .body-start .ensures .0) _ (c .before .before .count-part .ensures) (c .enum-told .given .1)
+
+count-use-add-t9 : (t : ℕ) → count-use-lts.Need-add-t9 (count-use-calls t) (count-use-at t) count-use.Post
+count-use-add-t9 t c = omega (arith, count-few _ _ _ _ _ (c .before .before .before .before .count-part .ensures) (c .before .before .body .given .1) .0, c .before .before .before .before .before .before .before .before .before .before .pre .1 .1)
+
+count-use-returns-3 : (t : ℕ) → count-use-lts.Need-returns-3 (count-use-calls t) (count-use-at t) count-use.Post
+count-use-returns-3 t c = use-fits _ _ _ _ _ (c .before .before .before .before .before .before .before .before .before .before .pre .1 .0) (c .before .before .before .before .before .before .before .before .if1 .taken) _ (c .before .before .before .before .before .before .before .length-of .ensures .0) (c .before .before .before .before .before .before .if2 .left) _ (c .before .before .before .before .before .body-start .ensures .0) _ (c .before .before .before .before .count-part .ensures) _ (c .before .before .body .given .1)
+
+count-use-returns-4 : (t : ℕ) → count-use-lts.Need-returns-4 (count-use-calls t) (count-use-at t) count-use.Post
+count-use-returns-4 t c = use-none _ _ _ _ _ (c .before .before .before .pre .1 .0) _ (c .before .if1 .left) (c .one-part2 .ensures)
+
+pub +count-part+count-use-spec : {M : Type 1} → statement M
++count-part+count-use-spec = close μ-count-part μ-count-use (λ t. count-part-lts.spec (count-part-calls t) (count-part-at t)
+    count-part.Post
+    (count-part-returns t)
+    (λ c κs. search needs)
+    (count-part-returns-2 t)
+    (λ c κs. search needs)
+    (count-part-returns-3 t)
+    (λ c. search needs)
+    (λ c κs. search needs)
+    (λ c. search needs)
+    (count-part-add-from-2 t)
+    (λ c. search needs)
+    (λ c κs. search needs)
+    (count-part-count-use-requires t)
+    (count-part-returns-4 t)
+    (λ c κs. search needs)
+    (count-part-returns-5 t)
+    (λ c. search needs)
+    (λ c. search needs)
+    (count-part-count-part-requires t)
+    (λ c. search needs)
+    (λ c. search needs)
+    (count-part-returns-6 t)
+    (count-part-add-t22 t)
+    (count-part-returns-7 t)
+    (λ c. search needs)
+    (λ c. search needs)
+    (count-part-sub-count-part-5 t)
+    (count-part-count-part-requires-2 t)
+    (λ c. search needs)
+    (λ c. search needs)
+    (count-part-returns-8 t)
+    (count-part-count-two-requires t)
+    (count-part-returns-9 t))
+    λ t. count-use-lts.spec (count-use-calls t) (count-use-at t)
+    count-use.Post
+    (λ c κs. search needs)
+    (λ c κs. search needs)
+    (count-use-returns t)
+    (λ c κs. search needs)
+    (λ c. search needs)
+    (count-use-count-part-requires t)
+    (λ c. search needs)
+    (λ c. search needs)
+    (count-use-returns-2 t)
+    (count-use-add-t9 t)
+    (count-use-returns-3 t)
+    (λ c κs. search needs)
+    (count-use-returns-4 t)

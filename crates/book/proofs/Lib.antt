@@ -1,0 +1,5 @@
+pub mod PlaceLaws
+pub mod CodeLaws
+pub mod ReadLaws
+pub mod CountLaws
+pub mod FormLaws

@@ -1,0 +1,60 @@
+-- `book::read_operands` meets its contract. The invariant: what was asked is what is left from operand i on. Assumes nothing.
+use borrow.Author.Needs.{needs}
+use native.Mathlib.Omega.{arith}
+use native.Mathlib.Nat.{sub-zero}
+use Rattle.rules.specs.declared.Shape.{Shape}
+use Prim.Native.Nat.{ℕ, _+_, _-_, _<_, _≤_}
+use mathlib.Core.Path.{_≡_, refl, sym, _∙_, ap}
+use mathlib.Core.Bool.{Bool, true, false}
+use lib.ListN.{length, getD}
+use Rattle.rules.specs.Codes.{operandsOf}
+use Rattle.rules.specs.Reading.{readOperands, operandFits, byteIf, andThen}
+use Rattle.rules.proofs.ReadingLaws.{byte-short, byte-wrong, byte-next, operands-none, operands-short, operands-wrong, operands-step}
+use Rattle.book.proofs.read_operands.Statement.{statement}
+use Rattle.book.proofs.read_operands.Tie as tie
+
+abbrev Inv-loop : tie.InvT-loop
+Inv-loop s from code k m n i₀ at₀ i at =
+    (i ≤ n) × (readOperands s (operandFits k m code) (operandsOf code) 0 from ≡ readOperands s (operandFits k m code) (n - i) i at)
+
+abbrev μ-loop : tie.MeasureT-loop
+μ-loop s from code k m n i₀ at₀ i at = n - i
+
+loop-holds : tie.Need-loop-holds Inv-loop μ-loop
+loop-holds c = (search needs, ap (λ (n : ℕ). readOperands (c .before .before .args .s .now) (operandFits (c .before .before .args .k) (c .before .before .args .m) (c .before .before .args .code)) n 0 (c .before .before .args .from)) (sym (ap (λ (r : Shape). r .operands) (c .shape-of .ensures)) ∙ sym (sub-zero _)))
+
+returns : tie.Need-returns Inv-loop μ-loop
+returns c = sym (c .before .before .loop .inv .1 ∙ operands-short _ _ _ _ _ (c .before .loop-test .taken) (c .if1 .taken))
+
+add-i : tie.Need-add-i Inv-loop μ-loop
+add-i c = omega (arith, c .before .before .before .before .before .before .shape-of .ok)
+
+loop-less : tie.Need-loop-less Inv-loop μ-loop
+loop-less c = omega arith
+
+loop-again : tie.Need-loop-again Inv-loop μ-loop
+loop-again c = (search needs, c .before .before .before .before .before .loop .inv .1 ∙ operands-step _ _ _ _ _ (c .before .before .before .before .loop-test .taken) (c .before .before .before .if1 .left) (sym (c .before .operand-fits .ensures) ∙ c .if2 .taken))
+
+returns-2 : tie.Need-returns-2 Inv-loop μ-loop
+returns-2 c = sym (c .before .before .before .before .before .loop .inv .1 ∙ operands-wrong _ _ _ _ _ (c .before .before .before .before .loop-test .taken) (c .before .before .before .if1 .left) (sym (c .before .operand-fits .ensures) ∙ c .if2 .left))
+
+returns-3 : tie.Need-returns-3 Inv-loop μ-loop
+returns-3 c = sym (c .before .loop .inv .1 ∙ operands-none _ _ _ _ _ (c .loop-test .left))
+
+pub read-operands-spec : {M : Type 1} → statement M
+read-operands-spec =
+    tie.close
+    (tie.spec
+    Inv-loop
+    μ-loop
+    (λ c κs. search needs)
+    loop-holds
+    returns
+    (λ c. search needs)
+    (λ c κs. search needs)
+    (λ c. search needs)
+    add-i
+    loop-less
+    loop-again
+    returns-2
+    returns-3)

@@ -1,0 +1,3 @@
+-- What the contracts of the book name beside the rules.
+pub mod Counting
+pub mod Form
