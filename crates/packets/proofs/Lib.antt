@@ -1,0 +1,10 @@
+pub mod Chunks
+pub mod Fillings
+pub mod Comparing
+pub mod Inserting
+pub mod Merging
+pub mod Sifting
+pub mod Pairing
+pub mod Lending
+pub mod Emitting
+pub mod Words

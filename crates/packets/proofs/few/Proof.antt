@@ -1,0 +1,11 @@
+use native.Mathlib.Omega.{arith}
+use Rattle.packets.proofs.Emitting.{values-eight}
+use borrow.Author.Needs.{needs}
+use Rattle.packets.proofs.few.Statement.{statement}
+use Rattle.packets.proofs.few.Tie as tie
+
+returns-2 : tie.Need-returns-2
+returns-2 c = (search needs, λ n v. values-eight (c .before .args .k) n v (search needs))
+
+pub few-spec : {M : Type 1} → statement M
+few-spec = tie.close (tie.spec (λ c. search needs) returns-2)
