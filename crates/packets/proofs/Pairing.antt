@@ -71,10 +71,10 @@ module _ {w : ℕ} {v : List ℕ} {k : ℕ} (x : List ℕ) (n i : ℕ) (t : Pack
   unfolding pairsInto
   pairing-many h j o =
       omega (
-      arith,
-      j .over o,
-      ap length (rw (rows-at n x i h) at (a .same)),
-      length-pairsInto-le w (union (chunks k v) (map (mix w (rowAt x i)) t)) (drop (i + 1) (chunks n x)) t,
+        arith,
+        j .over o,
+        ap length (rw (rows-at n x i h) at (a .same)),
+        length-pairsInto-le w (union (chunks k v) (map (mix w (rowAt x i)) t)) (drop (i + 1) (chunks n x)) t,
       )
 
   pub pairing-done : {m : ℕ} → n ≤ i → Is (record { values = v; count = k; mask = m }) m whole

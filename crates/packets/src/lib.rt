@@ -164,11 +164,7 @@ pub fn compare(p: [u16; 8], q: [u16; 8]) -> Order
 pub fn passes(p: [u16; 8], f: usize, v: u16) -> bool
     ensures { λ r. ⌜ r ≡ passes f v p ⌝ }
 {
-    if f < 8 {
-        p[f] == v
-    } else {
-        0 == v
-    }
+    if f < 8 { p[f] == v } else { 0 == v }
 }
 
 // "set field to value".
@@ -246,7 +242,7 @@ fn insert_in(w: &mut [u16; 128], k: usize, p: [u16; 8]) -> usize
     match o {
         Place::There => k,
         Place::At(i) => {
-            if k == 16 {
+            if 16 <= k {
                 return 17;
             }
             shift(w, i, k);
@@ -263,12 +259,19 @@ pub fn insert(s: PacketSet, p: [u16; 8]) -> Made
 {
     let mut w = s.values;
     let n = s.count;
-    let k = insert_in(&mut w, n, p);
-    if 16 < k {
+    let more = insert_in(&mut w, n, p);
+    if 16 < more {
         let e = empty(s.mask);
-        return Made { fits: false, set: e };
+        return Made {
+            fits: false,
+            set: e,
+        };
     }
-    let r = PacketSet { values: w, count: k, mask: s.mask };
+    let r = PacketSet {
+        values: w,
+        count: more,
+        mask: s.mask,
+    };
     Made { fits: true, set: r }
 }
 
@@ -305,24 +308,44 @@ fn lead(a: &[u16; 128], i: usize, n: usize, b: &[u16; 128], j: usize, m: usize) 
             match o {
                 Order::Less => {
                     let p = row(a, i);
-                    Turn { row: p, i: i + 1, j }
+                    Turn {
+                        row: p,
+                        i: i + 1,
+                        j,
+                    }
                 }
                 Order::Same => {
                     let p = row(a, i);
-                    Turn { row: p, i: i + 1, j: j + 1 }
+                    Turn {
+                        row: p,
+                        i: i + 1,
+                        j: j + 1,
+                    }
                 }
                 Order::More => {
                     let q = row(b, j);
-                    Turn { row: q, i, j: j + 1 }
+                    Turn {
+                        row: q,
+                        i,
+                        j: j + 1,
+                    }
                 }
             }
         } else {
             let q = row(b, j);
-            Turn { row: q, i, j: j + 1 }
+            Turn {
+                row: q,
+                i,
+                j: j + 1,
+            }
         }
     } else {
         let p = row(a, i);
-        Turn { row: p, i: i + 1, j }
+        Turn {
+            row: p,
+            i: i + 1,
+            j,
+        }
     }
 }
 
@@ -342,7 +365,10 @@ pub fn union(a: PacketSet, b: PacketSet) -> Made
     while i + j < n + m {
         if k == 16 {
             let e = empty(a.mask);
-            return Made { fits: false, set: e };
+            return Made {
+                fits: false,
+                set: e,
+            };
         }
         let t = lead(&x, i, n, &y, j, m);
         let p = t.row;
@@ -351,7 +377,11 @@ pub fn union(a: PacketSet, b: PacketSet) -> Made
         j = t.j;
         k += 1;
     }
-    let s = PacketSet { values: w, count: k, mask: a.mask };
+    let s = PacketSet {
+        values: w,
+        count: k,
+        mask: a.mask,
+    };
     Made { fits: true, set: s }
 }
 
@@ -363,12 +393,28 @@ fn sift(a: &[u16; 128], i: usize, n: usize, b: &[u16; 128], j: usize, m: usize) 
     if j < m {
         let o = order_at(a, i * 8, b, j * 8);
         match o {
-            Order::Less => Sieve { kept: true, i: i + 1, j },
-            Order::Same => Sieve { kept: false, i: i + 1, j: j + 1 },
-            Order::More => Sieve { kept: false, i, j: j + 1 },
+            Order::Less => Sieve {
+                kept: true,
+                i: i + 1,
+                j,
+            },
+            Order::Same => Sieve {
+                kept: false,
+                i: i + 1,
+                j: j + 1,
+            },
+            Order::More => Sieve {
+                kept: false,
+                i,
+                j: j + 1,
+            },
         }
     } else {
-        Sieve { kept: true, i: i + 1, j }
+        Sieve {
+            kept: true,
+            i: i + 1,
+            j,
+        }
     }
 }
 
@@ -490,11 +536,18 @@ pub fn pairs(a: PacketSet, b: PacketSet, w: u8, mask: u8) -> Made
         k = pair_in(&mut v, k, p, &y, m, w);
         if 16 < k {
             let e = empty(mask);
-            return Made { fits: false, set: e };
+            return Made {
+                fits: false,
+                set: e,
+            };
         }
         i += 1;
     }
-    let s = PacketSet { values: v, count: k, mask };
+    let s = PacketSet {
+        values: v,
+        count: k,
+        mask,
+    };
     Made { fits: true, set: s }
 }
 
@@ -579,9 +632,17 @@ pub fn load(area: &[u16], at: usize, count: usize, mask: u8) -> PacketSet
 {
     if holds(area.len(), at) {
         let v = read128(area, at);
-        PacketSet { values: v, count, mask }
+        PacketSet {
+            values: v,
+            count,
+            mask,
+        }
     } else {
-        PacketSet { values: [0u16; 128], count, mask }
+        PacketSet {
+            values: [0u16; 128],
+            count,
+            mask,
+        }
     }
 }
 

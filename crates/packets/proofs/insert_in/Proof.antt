@@ -20,7 +20,7 @@ returns : tie.Need-returns
 returns c =
     let o = c .before .before in
     let s = o .before .before .before .before in
-    inserted-not (s .args .w .now) (s .args .p) (o .o .given .0 .0) (s .args .k) (c .if1 .taken) (found o .1)
+    inserted-not (s .args .w .now) (s .args .p) (o .o .given .0 .0) (s .args .k) (omega (arith, s .pre .room)) (found o .1)
 
 shift-requires : tie.Need-shift-requires
 shift-requires c κs =
