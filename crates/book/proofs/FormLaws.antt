@@ -9,7 +9,7 @@ use mathlib.Core.List.{List, [], _∷_}
 use lib.Bits.{bitAnd}
 use lib.Dec.{ltb, leb, eqb}
 use lib.ListN.{length, getD}
-use borrow.Author.Tests.{le-leb, lt-leb, leb-true, eq-eqb, ne-eqb}
+use borrow.Author.Tests.{le-leb, lt-leb, leb-true, eqb-true, eq-eqb, ne-eqb, not-true, not-false}
 use Rattle.rules.specs.declared.Reading.{Reading}
 use Rattle.rules.specs.declared.Reading.the-variants.{Next, Wrong}
 use Rattle.rules.specs.declared.Refusal.{Refusal}
@@ -22,6 +22,7 @@ use Rattle.rules.specs.Parts.{parts, deep}
 use Rattle.rules.specs.Books.{masksFit, mostBytes, mostFields, mostTables, mostParts, mostBeside}
 use Rattle.rules.specs.Reading.{fieldsOf, tablesOf, readsAt, writesAt, bodyStart, masksRight, readEntries, mainOf, policyOf, typingFaults, sizesOf, unless, unlessWrong, unlessFault, verdict}
 use Rattle.rules.proofs.Decoding.{and-was}
+use Rattle.rules.proofs.Whole.{Readable}
 use Rattle.book.specs.Counting.{limited}
 use Rattle.book.specs.Form.{passTyping, untyped, formVerdict, afterForm}
 
@@ -88,14 +89,6 @@ kept : (l : List ℕ) (z : Sizes) → unlessFault l (Accepted z) ≡ afterForm (
 kept [] z = refl
 kept (at ∷ l) z = refl
 
-not-true : (t : Bool) → not t ≡ true → t ≡ false
-not-true true e = sym e
-not-true false e = refl
-
-not-false : (t : Bool) → not t ≡ false → t ≡ true
-not-false true e = refl
-not-false false e = sym e
-
 pub few-tables : (k m : ℕ) (t : Bool) → t ≡ (leb 1 k && (leb k mostFields && leb m mostTables)) → not t ≡ false → m ≤ mostTables
 few-tables k m t e q =
     let both = and-was (leb 1 k) (leb k mostFields && leb m mostTables) (sym e ∙ not-false t q) .1 in
@@ -157,3 +150,52 @@ verdict-form s =
     parted (typingFaults (policyOf s)) (sizesOf s) (leb 2 (length s) && leb (length s) mostBytes)
     (leb 1 (fieldsOf s) && (leb (fieldsOf s) mostFields && leb (tablesOf s) mostTables)) (eqb (bodyStart s (suc (tablesOf s))) (length s))
     (masksRight s (suc (tablesOf s)) 0) (readEntries s (suc (tablesOf s)) 0) (leb (parts (mainOf s)) mostParts && leb (deep (mainOf s)) mostBeside)
+
+-- what a book has, whose form is right: each test held
+module _ (l : List ℕ) (z y : Sizes) where
+  record Held (t1 t2 t3 t4 : Bool) (x : Reading) (t6 : Bool) : Type 0 where
+    one : t1 ≡ true
+    two : t2 ≡ true
+    three : t3 ≡ true
+    four : t4 ≡ true
+    five : (a : ℕ) × (x ≡ Next a)
+    six : t6 ≡ true
+    sizes : y ≡ z
+
+  never : {X : Type 0} (r : Refusal) → Refused r ≡ Accepted y → X
+  never r e = let n : _≡_ {A = ℕ} 0 1 = cc in absurd (omega arith)
+
+  held : (t1 t2 t3 t4 : Bool) (x : Reading) (t6 : Bool) → untyped z (inOrder l z t1 t2 t3 t4 x t6) ≡ Accepted y → Held t1 t2 t3 t4 x t6
+  held false t2 t3 t4 x t6 e = never BookLength e
+  held true false t3 t4 x t6 e = never Counts e
+  held true true false t4 x t6 e = never Lengths e
+  held true true true false x t6 e = never EntryMasks e
+  held true true true true (Wrong at) t6 e = never (Form at) e
+  held true true true true (Next a) false e = never Limits e
+  held true true true true (Next a) true e =
+      let s : z ≡ y = go l e in
+      record { one = refl; two = refl; three = refl; four = refl; five = (a, refl); six = refl; sizes = sym s }
+    where
+      go : (l : List ℕ) → untyped z (unlessFault l (Accepted z)) ≡ Accepted y → z ≡ y
+      go [] e = cc
+      go (at ∷ l) e = cc
+
+pub form-right : (s : List ℕ) (y : Sizes) → formVerdict s ≡ Accepted y → Readable s × (y ≡ sizesOf s)
+unfolding formVerdict verdict
+form-right s y e =
+    let h = held (typingFaults (policyOf s)) (sizesOf s) y (leb 2 (length s) && leb (length s) mostBytes)
+    (leb 1 (fieldsOf s) && (leb (fieldsOf s) mostFields && leb (tablesOf s) mostTables)) (eqb (bodyStart s (suc (tablesOf s))) (length s))
+    (masksRight s (suc (tablesOf s)) 0) (readEntries s (suc (tablesOf s)) 0) (leb (parts (mainOf s)) mostParts && leb (deep (mainOf s)) mostBeside) e in
+    let b1 = and-was (leb 2 (length s)) (leb (length s) mostBytes) (h .one) in
+    let b2 = and-was (leb 1 (fieldsOf s)) (leb (fieldsOf s) mostFields && leb (tablesOf s) mostTables) (h .two) in
+    let b3 = and-was (leb (fieldsOf s) mostFields) (leb (tablesOf s) mostTables) (b2 .1) in (
+      record {
+        bytes = (leb-true 2 (length s) (b1 .0), leb-true (length s) mostBytes (b1 .1));
+        fields = (leb-true 1 (fieldsOf s) (b2 .0), leb-true (fieldsOf s) mostFields (b3 .0));
+        tables = leb-true (tablesOf s) mostTables (b3 .1);
+        lengths = eqb-true (bodyStart s (suc (tablesOf s))) (length s) (h .three);
+        masks = h .four;
+        form = h .five;
+      },
+      h .sizes,
+    )

@@ -1,12 +1,13 @@
 -- An array read as packets: laws of `chunks`, of eight reads or stores in a row, and of a packet put at a place.
-use Prim.Native.Nat.{ℕ, zero, suc, _+_, _*_, _-_, _≤_, _<_}
+use Prim.Native.Nat.{ℕ, zero, suc, _+_, _*_, _≤_, _<_}
 use mathlib.Core.Path.{_≡_, refl, sym, ap, ap₂, _∙_}
 use mathlib.Core.List.{List, [], _∷_, _++_, append-assoc}
 use native.Mathlib.Omega.{arith}
 use native.Mathlib.Numerals.{add-one, towards-suc}
 use native.Mathlib.Nat.{suc-mul, add-comm, zero-add, suc-add}
 use lib.ListN.{length, take, drop, getD, replicate, length-append, length-take, length-drop, take-append-drop, drop-of-length-le}
-use lib.Seq.{drop-cons, drop-drop, take-all, take-append-le, drop-append-le, sets, sets-eq, length-take-le, take-at, drop-at, getD-take, getD-drop}
+use lib.Seq.{drop-cons, drop-drop, take-all, take-append-le, drop-append-le, sets, sets-eq}
+use lib.Seq.{length-take-le, take-at, drop-at, getD-take, getD-drop}
 use Rattle.rules.specs.Packets.{Packet, Packets}
 use Rattle.packets.specs.Rows.{chunks, rowAt}
 use Rattle.packets.specs.Arrays.{eightAt, storedAt, putRow}
@@ -101,9 +102,9 @@ rows-none n v h = let e = rows-done n v 0 h in e ∙ sym (ap (λ (s : Packets). 
 pub length-row : (v : List ℕ) (i : ℕ) → length v ≡ 128 → i < 16 → length (rowAt v i) ≡ 8
 length-row v i e h = simp (length-take, length-drop) (omega arith)
 
--- value f of packet i
-pub row-value : (v : List ℕ) (i f : ℕ) → f < 8 → getD (rowAt v i) f 0 ≡ getD v (i * 8 + f) 0
-row-value v i f h = rw (getD-take, getD-drop)
+-- value f of the packet that starts at b
+pub value-at : (v : List ℕ) (b f : ℕ) → f < 8 → getD (take 8 (drop b v)) f 0 ≡ getD v (b + f) 0
+value-at v b f h = rw (getD-take, getD-drop)
 
 pub drop-replicate : (k m : ℕ) → drop k (replicate {A = ℕ} (k + m) 0) ≡ replicate m 0
 drop-replicate zero m = ap (λ (n : ℕ). replicate {A = ℕ} n 0) (zero-add m)

@@ -1,6 +1,6 @@
 -- Two packets compared value by value, where they stand in two arrays: one turn of the loop.
 use Prim.Native.Nat.{ℕ, _+_, _≤_, _<_}
-use mathlib.Core.Path.{_≡_, refl, sym, _∙_}
+use mathlib.Core.Path.{_≡_, sym, _∙_}
 use mathlib.Core.List.{List}
 use native.Mathlib.Nat.{le-refl}
 use native.Mathlib.Omega.{arith}
@@ -9,9 +9,10 @@ use lib.Arith.{lt-of-le-ne}
 use borrow.Author.Tests.{lt-ltb, le-ltb}
 use lib.Dec.{ltb}
 use lib.ListN.{length, take, drop, getD, length-take, length-drop, drop-of-length-le}
-use lib.Seq.{drop-cons, getD-take, getD-drop}
+use lib.Seq.{drop-cons}
 use Rattle.rules.specs.declared.Order.the-variants.{Less, Same, More}
 use Rattle.rules.specs.Packets.{orderBy, orderOf}
+use Rattle.packets.proofs.Chunks.{value-at}
 
 -- how the values from f on lie, of the eight of p at a and the eight of q at b
 module _ (p q : List ℕ) (a b f : ℕ) (hp : a + 8 ≤ length p) (hq : b + 8 ≤ length q) where
@@ -22,7 +23,7 @@ module _ (p q : List ℕ) (a b f : ℕ) (hp : a + 8 ≤ length p) (hq : b + 8 �
   by-value h =
       let kp : f < length (take 8 (drop a p)) = simp (length-take, length-drop) (omega arith) in
       let kq : f < length (take 8 (drop b q)) = simp (length-take, length-drop) (omega arith) in
-      rw (drop-cons (take 8 (drop a p)) f 0, drop-cons (take 8 (drop b q)) f 0, add-one, getD-take, getD-take, getD-drop, getD-drop)
+      rw (drop-cons (take 8 (drop a p)) f 0, drop-cons (take 8 (drop b q)) f 0, add-one, value-at p a f h, value-at q b f h)
 
   pub order-less : f < 8 → getD p (a + f) 0 < getD q (b + f) 0 → orderOf (drop f (take 8 (drop a p))) (drop f (take 8 (drop b q))) ≡ Less
   order-less h l = by-value h ∙ rw (lt-ltb _ _ l)
@@ -41,4 +42,4 @@ module _ (p q : List ℕ) (a b f : ℕ) (hp : a + 8 ≤ length p) (hq : b + 8 �
   order-end h =
       let kp : length (take 8 (drop a p)) ≤ f = simp (length-take, length-drop) (omega arith) in
       let kq : length (take 8 (drop b q)) ≤ f = simp (length-take, length-drop) (omega arith) in
-      rw (drop-of-length-le _ kp, drop-of-length-le _ kq)
+      rw (drop-of-length-le (take 8 (drop a p)) kp, drop-of-length-le (take 8 (drop b q)) kq)

@@ -1,19 +1,17 @@
 -- The values of packets written one packet after the other.
 use Prim.Native.Nat.{ℕ, zero, suc, _+_, _*_, _≤_, _<_}
-use mathlib.Core.Path.{_≡_, refl, sym, ap, ap₂, _∙_}
+use mathlib.Core.Path.{_≡_, refl, sym, ap₂, _∙_}
 use mathlib.Core.Bool.{true, false}
 use mathlib.Core.List.{List, [], _∷_, _++_, append-nil, append-assoc}
 use native.Mathlib.Omega.{arith}
 use native.Mathlib.Nat.{suc-mul, mul-le-mul-right, mul-le-mul}
-use native.Mathlib.Numerals.{add-one}
 use borrow.Author.Tests.{le-leb, lt-leb}
-use lib.Dec.{leb}
 use lib.ListN.{length, take, drop, length-append, length-take, length-drop}
-use lib.Seq.{take-all, take-at, drop-at, drop-drop, length-take-le, paste}
+use lib.Seq.{take-all, take-at, drop-at, drop-drop, paste}
 use Rattle.rules.specs.Packets.{Packet, Packets, valuesOf}
 use Rattle.packets.specs.Rows.{chunks, rowAt, Packed}
 use Rattle.packets.specs.Areas.{Emitted}
-use Rattle.packets.proofs.Chunks.{chunks-add, length-row}
+use Rattle.packets.proofs.Chunks.{chunks-add}
 
 -- a packet has eight values
 pub values-eight : (k n : ℕ) (v : List ℕ) → 8 ≤ k → valuesOf 8 (chunks n v) ≡ valuesOf k (chunks n v)

@@ -91,8 +91,10 @@ filling-over {w} {k} a e h = omega (arith, simp length-append at (ap length (a .
 
 -- ---- the packets of an array that pass, packet j next
 
-module _ (g : Packet → Bool) (x : List ℕ) (n j : ℕ) {w : List ℕ} {k : ℕ} {whole : Packets} (a : Filling w k (keep g (drop j (chunks n x))) whole) where
-  pub keep-yes : Packed x n → j < n → k ≤ j → g (rowAt x j) ≡ true → Filling (putRow w k (rowAt x j)) (k + 1) (keep g (drop (j + 1) (chunks n x))) whole
+module _ (g : Packet → Bool) (x : List ℕ) (n j : ℕ) {w : List ℕ} {k : ℕ} {whole : Packets}
+    (a : Filling w k (keep g (drop j (chunks n x))) whole) where
+  pub keep-yes : Packed x n → j < n → k ≤ j → g (rowAt x j) ≡ true
+      → Filling (putRow w k (rowAt x j)) (k + 1) (keep g (drop (j + 1) (chunks n x))) whole
   unfolding keep
   keep-yes q h l e =
       filling-next (rw (rows-at n x j h, e) at a) (omega (arith, q .room)) (length-row x j (q .size) (omega (arith, q .room)))

@@ -1,10 +1,10 @@
 -- A packet put into an array of ascending packets: where it goes, the packets after it moved up, and a loop that gathers packets so.
 use Prim.Native.Nat.{ℕ, zero, suc, _+_, _*_, _-_, _≤_, _<_}
 use mathlib.Core.Path.{_≡_, refl, sym, ap, _∙_}
-use mathlib.Core.Bool.{true, false}
+use mathlib.Core.Bool.{true}
 use mathlib.Core.List.{List, [], _∷_, _++_, map, append-assoc}
 use native.Mathlib.Omega.{arith}
-use lib.ListN.{length, take, drop, getD, replicate, length-append, length-take, length-drop, take-append-drop}
+use lib.ListN.{length, take, drop, getD, replicate, length-append, length-drop, take-append-drop}
 use lib.Seq.{drop-cons, take-add, take-at, drop-at, drop-drop, take-take, length-take-le}
 use Rattle.rules.specs.declared.Order.the-variants.{Less, Same, More}
 use Rattle.rules.specs.Packets.{Packet, Packets, orderOf, Before, AllAfter, Ascending, insert, union, gathered}
@@ -14,7 +14,8 @@ use Rattle.packets.specs.Rows.{chunks, rowAt, Packed, Is, Gives}
 use Rattle.packets.specs.Arrays.{putRow}
 use Rattle.packets.specs.declared.Place.the-variants.{At, There}
 use Rattle.packets.specs.Inserts.{Placed, Shifted, Inserted}
-use Rattle.packets.proofs.Chunks.{chunks-add, chunks-append, chunks-front, getD-chunks, length-chunks, rows-at, rows-done, length-put, length-row, drop-replicate}
+use Rattle.packets.proofs.Chunks.{chunks-add, chunks-append, chunks-front, getD-chunks, rows-at, rows-done}
+use Rattle.packets.proofs.Chunks.{length-chunks, length-put, length-row, drop-replicate}
 use Rattle.packets.proofs.Fillings.{packed-is, is-as, gives-set}
 
 -- ---- where a packet goes in an ascending list
@@ -56,7 +57,8 @@ module _ (w p : List ℕ) (k i : ℕ) (q : Packed w k) (h : 0 < i) (l : i ≤ k)
   row-before : getD (chunks k w) (i - 1) [] ≡ rowAt w (i - 1)
   row-before = getD-chunks k (i - 1) w [] (omega arith)
 
-  pub placed-here : orderOf p (rowAt w (i - 1)) ≡ More → insert p (drop i (chunks k w)) ≡ p ∷ drop i (chunks k w) → Placed p (chunks k w) (At i)
+  pub placed-here : orderOf p (rowAt w (i - 1)) ≡ More → insert p (drop i (chunks k w)) ≡ p ∷ drop i (chunks k w)
+      → Placed p (chunks k w) (At i)
   placed-here e f =
       let d : suc (i - 1) ≡ i = omega arith in
       let z = insert-past p (chunks k w) (i - 1) (q .order) in-rows (rw row-before e) in
@@ -211,7 +213,8 @@ module _ {w w′ p : List ℕ} {k r : ℕ} {left whole : Packets} (a : Gathering
   unfolding union
   gathering-count = omega (arith, i .count, ap length (a .same), length-union-le (insert p (chunks k w)) left)
 
-pub gathering-end : {w : List ℕ} {k m : ℕ} {whole : Packets} → Gathering w k [] whole → Is (record { values = w; count = k; mask = m }) m whole
+pub gathering-end : {w : List ℕ} {k m : ℕ} {whole : Packets} → Gathering w k [] whole
+    → Is (record { values = w; count = k; mask = m }) m whole
 unfolding union
 gathering-end a = is-as (packed-is (a .packed)) refl (a .same)
 
@@ -229,7 +232,8 @@ module _ (g : Packet → Packet) (x : List ℕ) (n j : ℕ) where
       → Gathering w k (g (rowAt x j) ∷ map g (drop (j + 1) (chunks n x))) whole
   gather-at a h = rw (rows-at n x j h) at a
 
-  pub gather-end : {w : List ℕ} {k : ℕ} {whole : Packets} → Gathering w k (map g (drop j (chunks n x))) whole → n ≤ j → Gathering w k [] whole
+  pub gather-end : {w : List ℕ} {k : ℕ} {whole : Packets} → Gathering w k (map g (drop j (chunks n x))) whole → n ≤ j
+      → Gathering w k [] whole
   gather-end a h = rw (rows-done n x j h) at a
 
   pub gather-next : {w w′ : List ℕ} {k r : ℕ} → Gathering w k (map g (drop j (chunks n x))) (gathered (map g (chunks n x))) → j < n → n ≤ 16

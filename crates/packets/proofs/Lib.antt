@@ -1,3 +1,4 @@
+-- The laws of packet sets that the proofs of the functions cite, and those that the layers above use.
 pub mod Chunks
 pub mod Fillings
 pub mod Comparing

@@ -47,51 +47,54 @@ union-some (x ∷ s) t h = omega (arith, length-union-le (x ∷ s) t)
 
 -- the turns of a merge of the first n packets of a and the first m of b
 module _ {a b : List ℕ} {n m : ℕ} (i j : ℕ) (qa : Packed a n) (qb : Packed b m) where
-  module _ (hi : i < n) (hj : j < m) where
-    pub leads-less : orderOf (rowAt a i) (rowAt b j) ≡ Less → Leads (record { row = rowAt a i; i = i + 1; j = j }) (chunks n a) (chunks m b) i j
-    leads-less e = record {
-      more = omega arith;
-      left = rw length-chunks (omega arith);
-      right = rw length-chunks (omega arith);
-      width = length-row a i (qa .size) (omega (arith, qa .room));
-      same = rw (rows-at n a i hi, rows-at m b j hj) (union-less _ _ _ _ (ascending-at b m j qb hj) e);
-    }
-
-    pub leads-same : orderOf (rowAt a i) (rowAt b j) ≡ Same → Leads (record { row = rowAt a i; i = i + 1; j = j + 1 }) (chunks n a) (chunks m b) i j
-    leads-same e = record {
-      more = omega arith;
-      left = rw length-chunks (omega arith);
-      right = rw length-chunks (omega arith);
-      width = length-row a i (qa .size) (omega (arith, qa .room));
-      same = rw (rows-at n a i hi, rows-at m b j hj) (union-same _ _ _ _ (ascending-at b m j qb hj) e);
-    }
-
-    pub leads-more : orderOf (rowAt a i) (rowAt b j) ≡ More → Leads (record { row = rowAt b j; i = i; j = j + 1 }) (chunks n a) (chunks m b) i j
-    leads-more e = record {
-      more = omega arith;
-      left = rw length-chunks (omega arith);
-      right = rw length-chunks (omega arith);
-      width = length-row b j (qb .size) (omega (arith, qb .room));
-      same = rw (rows-at n a i hi, rows-at m b j hj) (union-more _ _ _ _ (ascending-at b m j qb hj) e);
-    }
-
-  pub leads-left : i < n → m ≤ j → j ≤ m → Leads (record { row = rowAt a i; i = i + 1; j = j }) (chunks n a) (chunks m b) i j
-  leads-left hi hj kj = record {
+  -- packet i of a comes next, and the other goes on at j′; packet j of b comes next
+  leads-a : (j′ : ℕ) → i < n → j ≤ j′ → j′ ≤ m
+      → union (drop i (chunks n a)) (drop j (chunks m b)) ≡ rowAt a i ∷ union (drop (i + 1) (chunks n a)) (drop j′ (chunks m b))
+      → Leads (record { row = rowAt a i; i = i + 1; j = j′ }) (chunks n a) (chunks m b) i j
+  leads-a j′ hi h k e = record {
     more = omega arith;
     left = rw length-chunks (omega arith);
-    right = rw length-chunks (omega arith);
+    right = rw length-chunks k;
     width = length-row a i (qa .size) (omega (arith, qa .room));
-    same = rw (rows-done m b j hj, rows-at n a i hi, union-nil, union-nil);
+    same = e;
   }
 
-  pub leads-right : n ≤ i → i ≤ n → j < m → Leads (record { row = rowAt b j; i = i; j = j + 1 }) (chunks n a) (chunks m b) i j
-  leads-right hi ki hj = record {
+  leads-b : i ≤ n → j < m
+      → union (drop i (chunks n a)) (drop j (chunks m b)) ≡ rowAt b j ∷ union (drop i (chunks n a)) (drop (j + 1) (chunks m b))
+      → Leads (record { row = rowAt b j; i = i; j = j + 1 }) (chunks n a) (chunks m b) i j
+  leads-b hi hj e = record {
     more = omega arith;
-    left = rw length-chunks (omega arith);
+    left = rw length-chunks hi;
     right = rw length-chunks (omega arith);
     width = length-row b j (qb .size) (omega (arith, qb .room));
-    same = rw (rows-done n a i hi, rows-at m b j hj) (union-first _ _ (ascending-at b m j qb hj));
+    same = e;
   }
+
+  module _ (hi : i < n) (hj : j < m) where
+    pub leads-less : orderOf (rowAt a i) (rowAt b j) ≡ Less
+        → Leads (record { row = rowAt a i; i = i + 1; j = j }) (chunks n a) (chunks m b) i j
+    leads-less e =
+        leads-a j hi (omega arith) (omega arith)
+        (rw (rows-at n a i hi, rows-at m b j hj) (union-less _ _ _ _ (ascending-at b m j qb hj) e))
+
+    pub leads-same : orderOf (rowAt a i) (rowAt b j) ≡ Same
+        → Leads (record { row = rowAt a i; i = i + 1; j = j + 1 }) (chunks n a) (chunks m b) i j
+    leads-same e =
+        leads-a (j + 1) hi (omega arith) (omega arith)
+        (rw (rows-at n a i hi, rows-at m b j hj) (union-same _ _ _ _ (ascending-at b m j qb hj) e))
+
+    pub leads-more : orderOf (rowAt a i) (rowAt b j) ≡ More
+        → Leads (record { row = rowAt b j; i = i; j = j + 1 }) (chunks n a) (chunks m b) i j
+    leads-more e =
+        leads-b (omega arith) hj (rw (rows-at n a i hi, rows-at m b j hj) (union-more _ _ _ _ (ascending-at b m j qb hj) e))
+
+  pub leads-left : i < n → m ≤ j → j ≤ m → Leads (record { row = rowAt a i; i = i + 1; j = j }) (chunks n a) (chunks m b) i j
+  leads-left hi hj kj =
+      leads-a j hi (omega arith) kj (rw (rows-done m b j hj, rows-at n a i hi, union-nil, union-nil))
+
+  pub leads-right : n ≤ i → i ≤ n → j < m → Leads (record { row = rowAt b j; i = i; j = j + 1 }) (chunks n a) (chunks m b) i j
+  leads-right hi ki hj =
+      leads-b ki hj (rw (rows-done n a i hi, rows-at m b j hj) (union-first _ _ (ascending-at b m j qb hj)))
 
 -- ---- in the loop, where a packet is left or none is
 

@@ -6,14 +6,14 @@ use mathlib.Core.List.{List, [], _∷_, map}
 use native.Mathlib.Omega.{arith}
 use lib.ListN.{length, drop, getD, replicate}
 use Rattle.rules.specs.Masks.{has}
-use Rattle.rules.specs.Packets.{Packet, Packets, Ascending, mix, without, union, pairsInto}
+use Rattle.rules.specs.Packets.{Packet, Packets, mix, without, union, pairsInto}
 use Rattle.rules.proofs.Sets.{length-pairsInto-le}
 use Rattle.packets.specs.Rows.{chunks, rowAt, Packed, Is}
 use Rattle.packets.specs.Arrays.{blank}
 use Rattle.packets.specs.Inserts.{Inserted, Joined}
 use Rattle.packets.proofs.Chunks.{eight, rows-at, rows-done}
 use Rattle.packets.proofs.Fillings.{packed-is, is-as}
-use Rattle.packets.proofs.Inserting.{Gathering, gathering-next, gathering-count, gather-at, gather-end}
+use Rattle.packets.proofs.Inserting.{Gathering, gathering-count, gather-at, gather-end}
 
 -- ---- field by field
 
@@ -38,12 +38,14 @@ mix-blank w p h = mix-eight w p blank h ∙ sym (mix-eight w p [] h)
 -- ---- one packet paired with the first m of y
 
 module _ (g : Packet → Packet) (y w₀ : List ℕ) (m k₀ : ℕ) where
-  pub pairing-over : {w w′ : List ℕ} {k r : ℕ} (j : ℕ) → Gathering w k (map g (drop j (chunks m y))) (union (chunks k₀ w₀) (map g (chunks m y))) → j < m
+  pub pairing-over : {w w′ : List ℕ} {k r : ℕ} (j : ℕ)
+      → Gathering w k (map g (drop j (chunks m y))) (union (chunks k₀ w₀) (map g (chunks m y))) → j < m
       → Inserted w′ w k (g (rowAt y j)) r → 16 < r → Joined w′ w₀ k₀ (map g (chunks m y)) 17
   pairing-over j a h i o =
       record { over = λ _. omega (arith, gathering-count (gather-at g y m j a h) i); made = λ l. absurd (omega arith) }
 
-  pub pairing-end : {w : List ℕ} {k : ℕ} (j : ℕ) → Gathering w k (map g (drop j (chunks m y))) (union (chunks k₀ w₀) (map g (chunks m y))) → m ≤ j
+  pub pairing-end : {w : List ℕ} {k : ℕ} (j : ℕ)
+      → Gathering w k (map g (drop j (chunks m y))) (union (chunks k₀ w₀) (map g (chunks m y))) → m ≤ j
       → Joined w w₀ k₀ (map g (chunks m y)) k
   unfolding union
   pairing-end j a h =
@@ -63,7 +65,8 @@ pairing-start w s t = record { packed = record { size = refl; room = omega arith
 
 module _ {w : ℕ} {v : List ℕ} {k : ℕ} (x : List ℕ) (n i : ℕ) (t : Packets) {whole : Packets}
     (a : Pairing w v k (drop i (chunks n x)) t whole) where
-  pub pairing-next : {v′ : List ℕ} {r : ℕ} → i < n → Joined v′ v k (map (mix w (rowAt x i)) t) r → r ≤ 16 → Pairing w v′ r (drop (i + 1) (chunks n x)) t whole
+  pub pairing-next : {v′ : List ℕ} {r : ℕ} → i < n → Joined v′ v k (map (mix w (rowAt x i)) t) r → r ≤ 16
+      → Pairing w v′ r (drop (i + 1) (chunks n x)) t whole
   unfolding pairsInto
   pairing-next h j l = let m = j .made l in record { packed = m .0; same = rw (m .1) (rw (rows-at n x i h) at (a .same)) }
 

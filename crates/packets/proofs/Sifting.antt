@@ -1,6 +1,6 @@
 -- The packets of one ascending list that another lacks, packet by packet from the front: one turn.
 use Prim.Native.Nat.{ℕ, _+_, _≤_, _<_}
-use mathlib.Core.Path.{_≡_, refl, ap, ap₂, _∙_}
+use mathlib.Core.Path.{_≡_, refl, ap, ap₂}
 use mathlib.Core.Bool.{Bool, true, false, false≢true}
 use mathlib.Core.Logic.{inl, inr}
 use mathlib.Core.List.{List, [], _∷_}
@@ -8,7 +8,7 @@ use native.Mathlib.Omega.{arith}
 use lib.ListN.{drop}
 use Rattle.rules.specs.declared.Order.the-variants.{Less, Same, More}
 use Rattle.rules.specs.Packets.{Packet, Packets, orderOf, Before, Ascending, _∈_, consIf, keep, member, lacks}
-use Rattle.rules.proofs.Orders.{order-same, order-refl, order-turned, after-trans}
+use Rattle.rules.proofs.Orders.{order-same, order-turned, after-trans}
 use Rattle.rules.proofs.Sets.{after-out, after-not-in, lacks-in}
 use Rattle.packets.specs.Rows.{chunks, rowAt, Packed}
 use Rattle.packets.specs.declared.Sieve.{Sieve}
@@ -49,32 +49,30 @@ module _ (x y : Packet) (s t : Packets) (hs : Ascending (x ∷ s)) (ht : Ascendi
 
 -- the turns of the first n packets of a against the first m of b
 module _ {a b : List ℕ} {n m : ℕ} (i j : ℕ) (qa : Packed a n) (qb : Packed b m) (hi : i < n) where
+  -- packet i of a is judged, and the other goes on at j′
+  sifts-on : (k : Bool) (j′ : ℕ) → j ≤ j′ → j′ ≤ m
+      → keep (lacks (drop j (chunks m b))) (drop i (chunks n a))
+      ≡ consIf k (rowAt a i) (keep (lacks (drop j′ (chunks m b))) (drop (i + 1) (chunks n a)))
+      → Sifts (record { kept = k; i = i + 1; j = j′ }) a n b m i j
+  sifts-on k j′ h l e =
+      record { more = omega arith; from = omega arith; past = λ _. omega arith; left = omega arith; right = l; same = e }
+
   module _ (hj : j < m) where
     pub sifts-less : orderOf (rowAt a i) (rowAt b j) ≡ Less → Sifts (record { kept = true; i = i + 1; j = j }) a n b m i j
-    sifts-less e = record {
-      more = omega arith;
-      from = omega arith;
-      past = λ _. omega arith;
-      left = omega arith;
-      right = omega arith;
-      same = rw (rows-at n a i hi, rows-at m b j hj) (sift-less _ _ _ _ (ascending-at a n i qa hi) (ascending-at b m j qb hj) e);
-    }
+    sifts-less e =
+        sifts-on true j (omega arith) (omega arith)
+        (rw (rows-at n a i hi, rows-at m b j hj) (sift-less _ _ _ _ (ascending-at a n i qa hi) (ascending-at b m j qb hj) e))
 
     pub sifts-same : orderOf (rowAt a i) (rowAt b j) ≡ Same → Sifts (record { kept = false; i = i + 1; j = j + 1 }) a n b m i j
-    sifts-same e = record {
-      more = omega arith;
-      from = omega arith;
-      past = λ _. omega arith;
-      left = omega arith;
-      right = omega arith;
-      same = rw (rows-at n a i hi, rows-at m b j hj) (sift-same _ _ _ _ (ascending-at a n i qa hi) (ascending-at b m j qb hj) e);
-    }
+    sifts-same e =
+        sifts-on false (j + 1) (omega arith) (omega arith)
+        (rw (rows-at n a i hi, rows-at m b j hj) (sift-same _ _ _ _ (ascending-at a n i qa hi) (ascending-at b m j qb hj) e))
 
     pub sifts-more : orderOf (rowAt a i) (rowAt b j) ≡ More → Sifts (record { kept = false; i = i; j = j + 1 }) a n b m i j
     sifts-more e = record {
       more = omega arith;
       from = omega arith;
-      past = λ e. absurd (false≢true e);
+      past = λ y. absurd (false≢true y);
       left = omega arith;
       right = omega arith;
       same = rw (rows-at n a i hi, rows-at m b j hj) (sift-more _ _ _ _ (ascending-at a n i qa hi) (ascending-at b m j qb hj) e);
@@ -82,14 +80,7 @@ module _ {a b : List ℕ} {n m : ℕ} (i j : ℕ) (qa : Packed a n) (qb : Packed
 
   pub sifts-end : m ≤ j → j ≤ m → Sifts (record { kept = true; i = i + 1; j = j }) a n b m i j
   unfolding keep member
-  sifts-end hj kj = record {
-    more = omega arith;
-    from = omega arith;
-    past = λ _. omega arith;
-    left = omega arith;
-    right = omega arith;
-    same = rw (rows-at n a i hi, rows-done m b j hj);
-  }
+  sifts-end hj kj = sifts-on true j (omega arith) kj (rw (rows-at n a i hi, rows-done m b j hj))
 
 -- ---- in the loop, where packet i is kept, or not, or no packet is left
 

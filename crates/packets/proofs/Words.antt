@@ -1,15 +1,15 @@
 -- Packets and mask fix a set to the last word: what a set's words are, and which words are a set's.
-use Prim.Native.Nat.{ℕ, zero, suc, _+_, _*_, _-_, _≤_, _<_}
-use mathlib.Core.Path.{_≡_, refl, sym, ap, ap₂, _∙_, subst}
-use mathlib.Core.List.{List, [], _∷_, _++_, append-assoc}
+use Prim.Native.Nat.{ℕ, zero, suc, _+_, _*_, _-_, _≤_}
+use mathlib.Core.Path.{_≡_, refl, sym, ap, _∙_, subst}
+use mathlib.Core.List.{List, _++_, append-assoc}
 use native.Mathlib.Omega.{arith}
-use native.Mathlib.Nat.{add-comm, suc-mul}
 use lib.ListN.{length, take, drop, replicate, length-append, length-take, length-drop, length-replicate, take-append-drop}
 use lib.Seq.{take-all, take-at, drop-at, take-add, length-take-le}
 use Rattle.rules.specs.Packets.{Packet, Packets, Ascending, valuesOf}
 use Rattle.rules.proofs.Lists.{All, none, also}
 use Rattle.packets.specs.declared.PacketSet.{PacketSet}
-use Rattle.packets.specs.Rows.{chunks, rows, Is, wordsOf}
+use Rattle.packets.specs.declared.Made.{Made}
+use Rattle.packets.specs.Rows.{chunks, Is, Gives, wordsOf}
 use Rattle.packets.proofs.Fillings.{is-count}
 
 -- a packet of eight values
@@ -43,7 +43,8 @@ unfolding valuesOf chunks
 chunks-values none z = refl
 chunks-values (also {x} {xs = s} e a) z =
     let l : length x ≤ 8 = omega arith in
-    rw (take-all 8 x l, append-assoc x (valuesOf 8 s) z, take-at x (valuesOf 8 s ++ z) 8 e, drop-at x (valuesOf 8 s ++ z) 8 e, chunks-values a z)
+    let y = valuesOf 8 s ++ z in
+    rw (take-all 8 x l, append-assoc x (valuesOf 8 s) z, take-at x y 8 e, drop-at x y 8 e, chunks-values a z)
 
 module _ {r : PacketSet} {m : ℕ} {s : Packets} (k : Is r m s) where
   pub is-eight : All Eight s
@@ -64,6 +65,12 @@ set-eq r t e f g = λ i. record { values = e i; count = f i; mask = g i }
 pub one-set : {r t : PacketSet} {m : ℕ} {s : Packets} → Is r m s → Is t m s → r ≡ t
 one-set {r} {t} k l = set-eq r t (is-values k ∙ sym (is-values l)) (is-count k ∙ sym (is-count l)) (k .fields ∙ sym (l .fields))
 
+made-eq : (r t : Made) → r .fits ≡ t .fits → r .set ≡ t .set → r ≡ t
+made-eq r t e f = λ i. record { fits = e i; set = f i }
+
+pub one-made : {r t : Made} {m : ℕ} {s : Packets} → Gives r m s → Gives t m s → r ≡ t
+one-made {r} {t} g h = made-eq r t (g .fits ∙ sym (h .fits)) (one-set (g .set) (h .set))
+
 pub words-is : {m : ℕ} (s : Packets) → Ascending s → length s ≤ 16 → All Eight s
     → Is (record { values = wordsOf s; count = length s; mask = m }) m s
 unfolding wordsOf
@@ -81,3 +88,9 @@ words-is s h l a =
       same = e;
       fields = refl;
     }
+
+-- the words of a set, read back with its count and mask, are the set
+pub loaded-is : {r : PacketSet} {m : ℕ} (s : Packets) → r .values ≡ wordsOf s → r .count ≡ length s → r .mask ≡ m
+    → Ascending s → length s ≤ 16 → All Eight s → Is r m s
+loaded-is {r} {m} s e f g h l a =
+    subst (λ (t : PacketSet). Is t m s) (sym (set-eq r (record { values = wordsOf s; count = length s; mask = m }) e f g)) (words-is s h l a)

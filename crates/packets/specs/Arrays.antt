@@ -1,5 +1,5 @@
 -- What the helpers on an array of 128 values say: eight values read or stored, a packet put at a place.
-use Prim.Native.Nat.{ℕ, _+_, _*_, _-_, _≤_}
+use Prim.Native.Nat.{ℕ, _+_, _*_}
 use mathlib.Core.List.{List, [], _∷_, _++_}
 use lib.ListN.{take, drop, getD, set, replicate}
 use Rattle.rules.specs.Packets.{Packet}

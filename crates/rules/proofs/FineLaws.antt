@@ -97,7 +97,7 @@ module _ (c : Scope) (named : ℕ → Part) where
 
   -- ---- T and M below 2 ^ k
 
-  fine-masks : OfUses (MasksBelow (c .fields)) c named → (d : ℕ) (pred : Bool) (p : Part) → Fine c named d pred p → MasksBelow (c .fields) p
+  pub fine-masks : OfUses (MasksBelow (c .fields)) c named → (d : ℕ) (pred : Bool) (p : Part) → Fine c named d pred p → MasksBelow (c .fields) p
   unfolding Fine tested written
   fine-masks u zero pred p f = absurd f
   fine-masks u (suc d) pred Id f = (pow-pos (c .fields), pow-pos (c .fields))
@@ -125,7 +125,7 @@ body-use C F g h x start e = go (e .body)
     go none f = g x (e .reads) (e .writes)
     go (some p) f = h x (e .reads) (e .writes) start p f
 
-masks-use : (k x start : ℕ) (e : Entry) → masksFit k (e .reads) (e .writes) ≡ true
+pub masks-use : (k x start : ℕ) (e : Entry) → masksFit k (e .reads) (e .writes) ≡ true
     → MasksBelow k (useOf x (e .reads) (e .writes) start (e .body))
 unfolding tested written
 masks-use k x start e h = let m = masks-below k (e .reads) (e .writes) h in go (e .body) (m .1) (m .2)

@@ -1,3 +1,4 @@
+-- Zeros for the fields of the mask.
 use mathlib.Core.Path.{_∙_}
 use Rattle.packets.proofs.Pairing.{mix-blank}
 use borrow.Author.Needs.{needs}

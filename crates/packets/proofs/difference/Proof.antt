@@ -26,8 +26,9 @@ loop-again c =
     let l = d .before .before .before .before in
     let s = l .before .before .before in
     let e = d .sift .ensures in
-    let y = sifted-yes (l .loop .i) (l .loop .j) (l .loop .inv .3) e (s .pre .0) (search needs) (search needs) (c .before .before .if1 .taken) in
-    (e .left, e .right, omega (arith, e .past (c .before .before .if1 .taken)), rw (c .put-row .ensures, r .row .ensures) y)
+    let t = c .before .before .if1 .taken in
+    let y = sifted-yes (l .loop .i) (l .loop .j) (l .loop .inv .3) e (s .pre .0) (search needs) (search needs) t in
+    (e .left, e .right, omega (arith, e .past t), rw (c .put-row .ensures, r .row .ensures) y)
 
 loop-again-2 : tie.Need-loop-again-2 Inv-loop μ-loop
 loop-again-2 c =

@@ -1,3 +1,4 @@
+-- By whether the values fit.
 use native.Mathlib.Omega.{arith}
 use Rattle.packets.proofs.Emitting.{room-small, emitted-none, emitted-all}
 use borrow.Author.Needs.{needs}

@@ -1,4 +1,4 @@
-use native.Mathlib.Omega.{arith}
+-- A packet has eight values, so more are not asked for.
 use Rattle.packets.proofs.Emitting.{values-eight}
 use borrow.Author.Needs.{needs}
 use Rattle.packets.proofs.few.Statement.{statement}

@@ -1,7 +1,7 @@
+-- 128 words from a place on, without a sum that wraps.
 use mathlib.Core.Path.{sym}
 use native.Mathlib.Omega.{arith}
 use Rattle.packets.proofs.Lending.{within-in, within-out}
-use borrow.Author.Needs.{needs}
 use Rattle.packets.proofs.holds.Statement.{statement}
 use Rattle.packets.proofs.holds.Tie as tie
 

@@ -1,3 +1,4 @@
+-- The count says whether the packets are too many.
 use native.Mathlib.Omega.{arith}
 use Rattle.packets.proofs.Fillings.{gives-none}
 use Rattle.packets.proofs.Inserting.{inserted-gives}

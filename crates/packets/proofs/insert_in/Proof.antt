@@ -1,3 +1,4 @@
+-- By where the packet goes: it is there, there is no room, or it is put in the gap.
 use Prim.Native.Nat.{_≤_}
 use native.Mathlib.Omega.{arith}
 use Rattle.packets.specs.declared.Place.the-variants.{At}
@@ -10,7 +11,8 @@ use Rattle.packets.proofs.insert_in.Statement.{statement}
 use Rattle.packets.proofs.insert_in.Tie as tie
 
 -- the place that was found, and that it is among the packets or just after
-found : (c : tie.After-o) → let a = c .before .before .before .before .args in Placed (a .p) (chunks (a .k) (a .w .now)) (At (c .o .given .0 .0))
+found : (c : tie.After-o) → let a = c .before .before .before .before .args in
+    Placed (a .p) (chunks (a .k) (a .w .now)) (At (c .o .given .0 .0))
 found c = rw (c .o .given .1) at (c .before .before .place-in .ensures)
 
 below : (c : tie.After-o) → c .o .given .0 .0 ≤ c .before .before .before .before .args .k
@@ -37,14 +39,16 @@ put-row-requires c κs =
 returns-2 : tie.Need-returns-2
 returns-2 c =
     let s = c .before .before .before .before in
-    inserted-there (s .args .w .now) (s .args .p) (s .args .k) (s .pre) (rw (c .enum-told .given .1) at (c .before .before .place-in .ensures))
+    inserted-there (s .args .w .now) (s .args .p) (s .args .k) (s .pre)
+    (rw (c .enum-told .given .1) at (c .before .before .place-in .ensures))
 
 returns-3 : tie.Need-returns-3
 returns-3 c =
     let o = c .before .before .before .before .before .before in
     let s = o .before .before .before .before in
-    rw (c .put-row .ensures)
-    (inserted (s .args .w .now) (s .args .p) (o .o .given .0 .0) (s .args .k) (below o) (omega (arith, s .pre .room, c .before .before .before .before .if1 .left)) (s .pre) (search needs) _ (c .before .before .shift .ensures) (found o .1))
+    let h = c .before .before .before .before .if1 .left in
+    let i = inserted (s .args .w .now) (s .args .p) (o .o .given .0 .0) (s .args .k) (below o) (omega (arith, h)) (s .pre) (search needs) in
+    rw (c .put-row .ensures) (i _ (c .before .before .shift .ensures) (found o .1))
 
 pub insert-in-spec : {M : Type 1} → statement M
 insert-in-spec =

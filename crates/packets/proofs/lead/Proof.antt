@@ -1,3 +1,4 @@
+-- Each branch is one turn of the merge.
 use mathlib.Core.Path.{sym, _∙_}
 use native.Mathlib.Omega.{arith}
 use Rattle.packets.proofs.Merging.{leads-less, leads-same, leads-more, leads-left, leads-right}

@@ -1,3 +1,4 @@
+-- The first packet, or none.
 use mathlib.Core.Path.{refl}
 use Rattle.packets.proofs.Chunks.{rows-first, rows-none}
 use Rattle.packets.proofs.Fillings.{is-as, is-self}

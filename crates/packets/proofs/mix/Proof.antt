@@ -1,3 +1,4 @@
+-- Field by field.
 use mathlib.Core.Path.{sym, _∙_}
 use Rattle.packets.proofs.Pairing.{eight-eq, mix-eight}
 use borrow.Author.Needs.{needs}

@@ -1,3 +1,4 @@
+-- One packet put into an array of zeros.
 use Rattle.packets.proofs.Fillings.{filling-start, filling-next, filling-end}
 use mathlib.Core.List.{[], _∷_}
 use native.Mathlib.Omega.{arith}

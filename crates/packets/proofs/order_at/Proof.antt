@@ -24,7 +24,8 @@ returns c =
 returns-2 : tie.Need-returns-2 Inv-loop μ-loop
 returns-2 c =
     let l = c .before .before .before .before .before in
-    sym (l .loop .inv .1 ∙ order-more _ _ _ _ (l .loop .f) (l .before .pre .0) (l .before .pre .1) (search needs) (c .if2 .left) (c .before .if1 .taken))
+    let m = order-more _ _ _ _ (l .loop .f) (l .before .pre .0) (l .before .pre .1) (search needs) in
+    sym (l .loop .inv .1 ∙ m (c .if2 .left) (c .before .if1 .taken))
 
 loop-again : tie.Need-loop-again Inv-loop μ-loop
 loop-again c =

@@ -1,6 +1,6 @@
+-- A place below the count has its packet, any other the packet of zeros.
 use mathlib.Core.Path.{sym, _∙_}
 use Prim.Native.Nat.{_≤_}
-use native.Mathlib.Omega.{arith}
 use lib.ListN.{length, List·getD-eq-default}
 use Rattle.packets.specs.Rows.{rows}
 use Rattle.packets.specs.Arrays.{blank}

@@ -1,3 +1,4 @@
+-- The test of a value, and of 0 where there is no such field.
 use mathlib.Core.Path.{_≡_, sym, ap}
 use Prim.Native.Nat.{ℕ, _≤_}
 use native.Mathlib.Omega.{arith}

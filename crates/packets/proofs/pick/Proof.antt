@@ -1,3 +1,4 @@
+-- The bit of the mask decides.
 use borrow.Author.Tests.{eq-eqb, ne-eqb}
 use Rattle.rules.specs.Masks.{has}
 use borrow.Author.Needs.{needs}

@@ -1,5 +1,5 @@
 -- p goes before all packets from place i on.
-use Prim.Native.Nat.{_+_, _*_, _≤_, _<_, _-_}
+use Prim.Native.Nat.{_≤_, _-_}
 use mathlib.Core.Path.{_≡_, sym, _∙_}
 use mathlib.Core.List.{_∷_}
 use native.Mathlib.Omega.{arith}

@@ -1,3 +1,4 @@
+-- The store of a value, and nothing where there is no such field.
 use mathlib.Core.Path.{_≡_, sym}
 use Prim.Native.Nat.{_≤_}
 use native.Mathlib.Omega.{arith}

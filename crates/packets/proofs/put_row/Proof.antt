@@ -1,3 +1,4 @@
+-- Eight stores in a row put the packet there.
 use borrow.Author.Needs.{needs}
 use mathlib.Core.Path.{_∙_}
 use Prim.Native.Nat.{_*_}

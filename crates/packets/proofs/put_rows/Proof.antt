@@ -25,7 +25,8 @@ unfolding valuesOf chunks
 loop-holds c = (search needs, sym (zero-mul (c .before .args .k)), refl, refl)
 
 -- there is room for one packet more
-room : (c : tie.In-loop Inv-loop μ-loop) → let g = c .before .before .before .args in (c .before .loop .at + g .k ≤ g .n * g .k) × (g .n * g .k ≤ 128)
+room : (c : tie.In-loop Inv-loop μ-loop) → let g = c .before .before .before .args in
+    (c .before .loop .at + g .k ≤ g .n * g .k) × (g .n * g .k ≤ 128)
 room c =
     let s = c .before .before .before in
     let r = room-next (c .before .loop .i) (s .args .n) (s .args .k) (search needs) in
@@ -46,7 +47,8 @@ loop-again c =
     let l = r .before in
     let s = l .before .before .before in
     let m = l .before .loop in
-    let e = emit-next (s .args .k) (m .i) (m .at) (s .args .v .now) (s .args .out .now) (s .pre .0) (omega (arith, s .pre .2)) (m .inv .1) in (
+    let h : m .i * 8 ≤ length (s .args .v .now) = omega (arith, s .pre .2) in
+    let e = emit-next (s .args .k) (m .i) (m .at) (s .args .v .now) (s .args .out .now) (s .pre .0) h (m .inv .1) in (
       omega arith,
       rw (add-one (m .i), suc-mul, m .inv .1),
       rw (w .copy-in .ensures, r .row .ensures, m .inv .2) e,

@@ -1,3 +1,4 @@
+-- Eight reads in a row are the packet.
 use borrow.Author.Needs.{needs}
 use mathlib.Core.Path.{_∙_}
 use Prim.Native.Nat.{_*_}

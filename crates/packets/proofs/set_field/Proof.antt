@@ -1,6 +1,5 @@
 -- The first k packets of w, with those of s from j on after the change, make the whole.
 use Prim.Native.Nat.{_≤_, _-_}
-use mathlib.Core.Path.{_≡_}
 use mathlib.Core.List.{map}
 use native.Mathlib.Omega.{arith}
 use lib.ListN.{drop}

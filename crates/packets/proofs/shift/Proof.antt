@@ -1,5 +1,5 @@
 -- Packets j to k - 1 are moved.
-use Prim.Native.Nat.{_≤_, _<_, _-_}
+use Prim.Native.Nat.{_≤_, _-_}
 use mathlib.Core.Path.{_≡_}
 use native.Mathlib.Omega.{arith}
 use Rattle.packets.specs.Inserts.{Shifted}
@@ -21,7 +21,8 @@ loop-again : tie.Need-loop-again Inv-loop μ-loop
 loop-again c =
     let l = c .before .before .before .before .before in
     let s = l .before in
-    let n = shifted-next _ _ (l .loop .j) (l .loop .j - 1) (s .args .k) (omega arith) (search needs) (search needs) (s .pre .2) (l .loop .inv .2) in
+    let j = l .loop .j in
+    let n = shifted-next _ _ j (j - 1) (s .args .k) (omega arith) (search needs) (search needs) (s .pre .2) (l .loop .inv .2) in
     (omega arith, omega arith, rw (c .put-row .ensures, c .before .before .row .ensures) n)
 
 returns : tie.Need-returns Inv-loop μ-loop

@@ -1,3 +1,4 @@
+-- Each branch is one turn.
 use mathlib.Core.Path.{sym, _∙_}
 use Rattle.packets.proofs.Sifting.{sifts-less, sifts-same, sifts-more, sifts-end}
 use borrow.Author.Needs.{needs}

@@ -1,3 +1,4 @@
+-- By whether the words are there.
 use mathlib.Core.Path.{sym, _∙_}
 use native.Mathlib.Omega.{arith}
 use lib.ListN.{length}

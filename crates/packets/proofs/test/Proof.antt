@@ -1,6 +1,6 @@
 -- The first k packets of w are those that pass of the first j.
 use Prim.Native.Nat.{_≤_, _-_}
-use mathlib.Core.Path.{_≡_, sym, _∙_, ap}
+use mathlib.Core.Path.{sym, _∙_}
 use native.Mathlib.Omega.{arith}
 use lib.ListN.{drop}
 use Rattle.rules.specs.Packets.{keep, passes}
@@ -27,21 +27,25 @@ loop-again c =
     let l = p .before .before .before .before in
     let s = l .before .before in
     let e = sym (p .passes .ensures) ∙ c .before .before .if1 .taken in
-    (omega arith, omega arith, rw (c .put-row .ensures, p .before .row .ensures) (keep-yes _ (s .args .s .values) (s .args .s .count) (l .loop .j) (l .loop .inv .2) (s .pre) (search needs) (search needs) (rw (p .before .row .ensures) at e)))
+    let a = s .args .s in
+    let y = keep-yes _ (a .values) (a .count) (l .loop .j) (l .loop .inv .2) (s .pre) (search needs) (search needs) in
+    (omega arith, omega arith, rw (c .put-row .ensures, p .before .row .ensures) (y (rw (p .before .row .ensures) at e)))
 
 loop-again-2 : tie.Need-loop-again-2 Inv-loop μ-loop
 loop-again-2 c =
     let p = c .before in
     let l = p .before .before .before .before in
-    let s = l .before .before in
+    let a = l .before .before .args .s in
     let e = sym (p .passes .ensures) ∙ c .if1 .left in
-    (omega arith, omega arith, keep-no _ (s .args .s .values) (s .args .s .count) (l .loop .j) (l .loop .inv .2) (search needs) (rw (p .before .row .ensures) at e))
+    let n = keep-no _ (a .values) (a .count) (l .loop .j) (l .loop .inv .2) (search needs) in
+    (omega arith, omega arith, n (rw (p .before .row .ensures) at e))
 
 returns : tie.Need-returns Inv-loop μ-loop
 returns c =
     let l = c .before in
     let s = l .before .before in
-    filling-end (keep-end _ (s .args .s .values) (s .args .s .count) (l .loop .j) (l .loop .inv .2) (search needs)) (keep-ascending _ _ (s .pre .order))
+    let a = s .args .s in
+    filling-end (keep-end _ (a .values) (a .count) (l .loop .j) (l .loop .inv .2) (search needs)) (keep-ascending _ _ (s .pre .order))
 
 pub test-spec : {M : Type 1} → statement M
 test-spec =

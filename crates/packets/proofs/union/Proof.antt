@@ -23,8 +23,9 @@ returns : tie.Need-returns Inv-loop μ-loop
 returns c =
     let l = c .before .before .before in
     let s = l .before .before .before .args in
-    let o = merge-some (s .a .values) (s .b .values) (s .a .count) (s .b .count) (l .loop .i) (l .loop .j) (search needs) (search needs) (search needs) in
-    gives-none (c .empty .ensures) (filling-over (l .loop .inv .2) (c .before .if1 .taken) o)
+    let o = merge-some (s .a .values) (s .b .values) (s .a .count) (s .b .count) (l .loop .i) (l .loop .j) in
+    gives-none (c .empty .ensures)
+    (filling-over (l .loop .inv .2) (c .before .if1 .taken) (o (search needs) (search needs) (search needs)))
 
 loop-again : tie.Need-loop-again Inv-loop μ-loop
 loop-again c =
@@ -41,7 +42,9 @@ returns-2 : tie.Need-returns-2 Inv-loop μ-loop
 returns-2 c =
     let l = c .before in
     let s = l .before .before .before in
-    let e = merge-end (s .args .a .values) (s .args .b .values) (s .args .a .count) (s .args .b .count) (l .loop .i) (l .loop .j) (omega arith) (omega arith) in
+    let a = s .args .a in
+    let b = s .args .b in
+    let e = merge-end (a .values) (b .values) (a .count) (b .count) (l .loop .i) (l .loop .j) (omega arith) (omega arith) in
     gives-set (filling-end (rw e at (l .loop .inv .2)) (union-ascending _ _ (s .pre .0 .order)))
 
 pub union-spec : {M : Type 1} → statement M

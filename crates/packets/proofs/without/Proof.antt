@@ -1,13 +1,11 @@
 -- The first k packets of v, with those of s from j on without the fields, make the whole.
 use Prim.Native.Nat.{_≤_, _-_}
-use mathlib.Core.Path.{refl}
 use mathlib.Core.List.{map}
 use native.Mathlib.Omega.{arith}
 use lib.ListN.{drop}
 use Rattle.rules.specs.Masks.{less}
 use Rattle.rules.specs.Packets.{without, gathered}
 use Rattle.packets.specs.Rows.{chunks}
-use Rattle.packets.proofs.Fillings.{is-as}
 use Rattle.packets.proofs.Inserting.{Gathering, gathering-start, gathering-end, gather-next, gather-end}
 use borrow.Author.Needs.{needs}
 use Rattle.packets.proofs.without.Statement.{statement}
@@ -25,7 +23,8 @@ loop-again c =
     let l = p .before .before .before .before in
     let s = l .before .before in
     let i = rw (p .bare .ensures, p .before .row .ensures) at (c .insert-in .ensures) in
-    (omega arith, gather-next (without (s .args .w)) (s .args .s .values) (s .args .s .count) (l .loop .j) (l .loop .inv .1) (search needs) (s .pre .room) i)
+    let n = gather-next (without (s .args .w)) (s .args .s .values) (s .args .s .count) (l .loop .j) (l .loop .inv .1) in
+    (omega arith, n (search needs) (s .pre .room) i)
 
 returns : tie.Need-returns Inv-loop μ-loop
 unfolding less

@@ -1,0 +1,4 @@
+pub mod WalkLaws
+pub mod JudgeLaws
+pub mod FaultLaws
+pub mod VerdictLaws

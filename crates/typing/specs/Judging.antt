@@ -1,0 +1,72 @@
+-- The typing as it is judged on the bytes: masks of eight bits, and each fault at the place where the bytes have it.
+use Prim.Native.Nat.{ℕ, zero, suc, _+_, _%_}
+use mathlib.Core.Bool.{Bool, true, false, cond}
+use mathlib.Core.List.{List}
+use lib.Bits.{bitOr}
+use lib.Dec.{ltb, eqb}
+use lib.ListN.{length, getD}
+use Rattle.rules.specs.declared.Reading.{Reading}
+use Rattle.rules.specs.declared.Reading.the-variants.{Next, Wrong}
+use Rattle.rules.specs.Codes.{partsOf}
+use Rattle.rules.specs.Parts.{Part, Id, Drop, Test, Set, Not, Sum, Seq, Beside, Table, Open}
+use Rattle.rules.specs.Typing.{tested, written, rightMasks, fitMasks}
+use Rattle.rules.specs.Books.{mostDepth}
+use Rattle.rules.specs.Reading.{andThen, readTimes, below, after, partAt, tablesOf, lengthAt, readsAt, writesAt, bodyStart}
+use Rattle.book.specs.Counting.{uses}
+use Rattle.typing.specs.declared.Masks.{Masks}
+
+-- a mask by its first eight fields
+abbrev pub low : ℕ → ℕ
+low m = m % 256
+
+-- T and M of a part, and the place after it
+abbrev pub masksOf : Part → ℕ → Masks
+masksOf p next = record { tests = low (tested p); writes = low (written p); next = next }
+
+unfoldable pub masksAt : List ℕ → (ℕ → Part) → ℕ → ℕ → Masks
+masksAt s named d at = masksOf (partAt s named d at) (after s d at)
+
+-- a code over two parts, from its own masks and theirs
+abbrev pub pairMasks : ℕ → Masks → Masks → Masks → Masks
+pairMasks code own l r = record {
+  tests = bitOr (l .tests) (r .tests);
+  writes = cond (eqb code 7) (own .writes) (bitOr (l .writes) (r .writes));
+  next = r .next;
+}
+
+-- a concurrent part that is not right is a fault by itself, whatever stands below it
+unfoldable pub rightHere : Part → Bool
+rightHere Id = true
+rightHere Drop = true
+rightHere (Test f v) = true
+rightHere (Set f v) = true
+rightHere (Not p) = true
+rightHere (Sum p q) = true
+rightHere (Seq p q) = true
+rightHere (Beside wp wq p q) = rightMasks wp wq (low (tested p)) (low (written p)) (low (tested q)) (low (written q))
+rightHere (Table x r w start p) = true
+rightHere (Open x r w) = true
+
+-- the place after the part at a place, or that of the first fault: the code byte first, then the parts from left to right
+unfoldable pub judge : List ℕ → (ℕ → Part) → ℕ → ℕ → Reading
+judge s named zero at = Next at
+judge s named (suc d) at =
+    cond (ltb at (length s))
+    (cond (rightHere (partAt s named (suc d) at)) (readTimes (partsOf (getD s at 0)) (judge s named d) (below s at)) (Wrong at)) (Next at)
+
+-- the body of entry x: its concurrent parts, and whether it fits; an entry with no body has no fault
+unfoldable pub judgeEntry : List ℕ → ℕ → Reading
+judgeEntry s x = cond (eqb (lengthAt s x) 0) (Next 0) (judge s (uses s (eqb x 0)) mostDepth (bodyStart s x))
+
+abbrev pub fitMasked : ℕ → ℕ → Masks → Bool
+fitMasked r w p = fitMasks r w (p .tests) (p .writes)
+
+unfoldable pub fitEntry : List ℕ → ℕ → Reading
+fitEntry s x =
+    cond (eqb (lengthAt s x) 0) (Next 0)
+    (cond (fitMasked (readsAt s x) (writesAt s x) (masksAt s (uses s (eqb x 0)) mostDepth (bodyStart s x))) (Next 0) (Wrong (bodyStart s x)))
+
+-- n entries from x on, up to the first fault
+unfoldable pub inTurn : (ℕ → Reading) → ℕ → ℕ → Reading
+inTurn f zero x = Next 0
+inTurn f (suc n) x = andThen (f x) (λ a. inTurn f n (suc x))

@@ -1,0 +1,2 @@
+-- What the contracts of the typing name beside the rules.
+pub mod Judging
