@@ -83,12 +83,12 @@ accepted-exactly = exactly
 pub policy-unique : (P Q : Policy) → WellFormed P → WellFormed Q → writeBook P ≡ writeBook Q → P ≡ Q
 policy-unique = unique
 
-module _ (book packet : List ℕ) (bytes : Bytes book) (granted : Granted book packet) where
-  -- the packets given, as the k words of each that go to the result
-  abbrev pub packetsGiven : Packets
-  packetsGiven = map (take (fieldsOf book)) (given book packet)
+-- the packets given, as the k words of each that go to the result
+abbrev pub packetsGiven : List ℕ → List ℕ → Packets
+packetsGiven book packet = map (take (fieldsOf book)) (given book packet)
 
-  pub packets-exactly : (b : Packet) → (b ∈ packetsGiven) ↔ Gives (mainOf book) packet b
+module _ (book packet : List ℕ) (bytes : Bytes book) (granted : Granted book packet) where
+  pub packets-exactly : (b : Packet) → (b ∈ packetsGiven book packet) ↔ Gives (mainOf book) packet b
   unfolding given
   packets-exactly =
       let z = granted .sizes in
@@ -97,7 +97,7 @@ module _ (book packet : List ℕ) (bytes : Bytes book) (granted : Granted book p
       (accepted-fields book z a .1) (accepted-below book z a bytes) packet (granted .words)
 
   -- ascending, so no two are equal
-  pub packets-ascending : Ascending packetsGiven
+  pub packets-ascending : Ascending (packetsGiven book packet)
   unfolding given
   packets-ascending =
       let z = granted .sizes in
@@ -106,7 +106,7 @@ module _ (book packet : List ℕ) (bytes : Bytes book) (granted : Granted book p
       (accepted-fields book z a .1) (accepted-below book z a bytes) packet (granted .words)
 
   -- and that determines them
-  pub packets-determined : (t : Packets) → Ascending t → ((b : Packet) → (b ∈ t) ↔ Gives (mainOf book) packet b) → t ≡ packetsGiven
+  pub packets-determined : (t : Packets) → Ascending t → ((b : Packet) → (b ∈ t) ↔ Gives (mainOf book) packet b) → t ≡ packetsGiven book packet
   unfolding given
   packets-determined =
       let z = granted .sizes in

@@ -189,10 +189,11 @@ module _ (s : List ℕ) (small : Bytes s) (r : Readable s) where
           → OfBody (FineBody (fieldsOf s) (tablesOf s)) (cond t none (some p))
           → (a : ℕ) × (cond t (Next 0) (judge s (uses s (eqb (suc x) 0)) mostDepth at) ≡ firstFault (wrongBody at (cond t none (some p))) (Next a))
       go true e f = (0, refl)
-      go false e f =
-          (at + size p,
-          rw (ne-eqb (suc x) 0 (λ q. omega arith))
-          (judge-first s (scopeOf (fieldsOf s) (tablesOf s) false) noUse (r .fields .1) no-use mostDepth false at p (drop (bodyStart s (suc (suc x))) s) f e))
+      go false e f = (
+        at + size p,
+        rw (ne-eqb (suc x) 0 (λ q. omega arith))
+            (judge-first s (scopeOf (fieldsOf s) (tablesOf s) false) noUse (r .fields .1) no-use mostDepth false at p (drop (bodyStart s (suc (suc x))) s) f e),
+      )
 
   table-fit : (x : ℕ) → OfBody (FineBody (fieldsOf s) (tablesOf s)) (bodyAt s (suc x))
       → fitEntry s (suc x) ≡ firstFault (misfit (bodyStart s (suc x)) (tableAt s (suc x)) (bodyAt s (suc x))) (Next 0)
@@ -226,9 +227,10 @@ module _ (s : List ℕ) (small : Bytes s) (r : Readable s) where
       let next : ℕ = at + length (bytesOf (bodyAt s (suc x))) in
       let rest : List Entry = tablesFrom s n (suc (suc x)) in
       let ih = tables-first n (suc x) (st .1) (f .1) in
-      let e = next-start s (suc x) (tableAt s (suc x)) (st .0) in
-      (turn-first (judgeEntry s) n (suc x) (t .0) (wrongBody at (bodyAt s (suc x))) (wrongsIn next rest) (t .1) (rw e at (ih .0)),
-      turn-first (fitEntry s) n (suc x) 0 (misfit at (tableAt s (suc x)) (bodyAt s (suc x))) (misfitsIn next rest) (table-fit x (f .0)) (rw e at (ih .1)))
+      let e = next-start s (suc x) (tableAt s (suc x)) (st .0) in (
+        turn-first (judgeEntry s) n (suc x) (t .0) (wrongBody at (bodyAt s (suc x))) (wrongsIn next rest) (t .1) (rw e at (ih .0)),
+        turn-first (fitEntry s) n (suc x) 0 (misfit at (tableAt s (suc x)) (bodyAt s (suc x))) (misfitsIn next rest) (table-fit x (f .0)) (rw e at (ih .1)),
+      )
 
   -- the main policy
   module _ (st : Stands s 0 (mainAt s)) (f : Fine (scopeOf (fieldsOf s) (tablesOf s) true) (useAt s) mostDepth false (mainOf s)) where

@@ -27,7 +27,7 @@ fault-none (x ∷ l) a v e = let z : _≡_ {A = ℕ} 0 1 = cc in absurd (omega a
 
 module _ (s : List ℕ) (small : Bytes s) (v : Verdict) (ev : v ≡ formVerdict s) where
   pub form-refused : (r : Refusal) → v ≡ Refused r → v ≡ verdict s
-  form-refused r q = sym (verdict-form s ∙ rw (← ev, q)) 
+  form-refused r q = sym (verdict-form s ∙ rw (← ev, q))
 
   module _ (z : Sizes) (qv : v ≡ Accepted z) where
     typing-left : verdict s ≡ unlessFault (typingFaults (policyOf s)) (Accepted (sizesOf s))

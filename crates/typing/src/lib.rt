@@ -166,7 +166,12 @@ fn right_here(s: &[u8], main: bool, at: usize, depth: usize) -> bool
     let left = masks_at(s, main, at + 3, depth - 1);
     let middle = left.next;
     let right = masks_at(s, main, middle, depth - 1);
-    right_masks(book::byte_at(s, at + 1), book::byte_at(s, at + 2), left, right)
+    right_masks(
+        book::byte_at(s, at + 1),
+        book::byte_at(s, at + 2),
+        left,
+        right,
+    )
 }
 
 // The place after the part at a place, or that of the first concurrent part in book order that is not right.

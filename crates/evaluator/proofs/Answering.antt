@@ -1,0 +1,134 @@
+-- The whole answer: what each return of evaluate says (document 01, the numbers 1 to 7, then 8, 12, 9, 10).
+use Prim.Native.Nat.{ℕ, _+_, _-_, _*_, _/_, _^_, _≤_, _<_}
+use native.Mathlib.Omega.{arith}
+use native.Mathlib.Nat.{suc-mul, mul-le-mul-right}
+use mathlib.Core.Path.{_≡_, refl, sym, ap, _∙_}
+use mathlib.Core.Bool.{Bool, true, false, not}
+use mathlib.Core.List.{List, [], _∷_, _++_}
+use lib.Dec.{leb, eqb}
+use lib.ListN.{length, length-append, length-take}
+use borrow.Author.Tests.{eq-eqb, ne-eqb, le-leb, lt-leb}
+use Rattle.rules.specs.declared.Refusal.{Refusal}
+use Rattle.rules.specs.declared.Refusal.the-variants.{PacketLength, BufferLength, Unpopulated, TooWide}
+use Rattle.rules.specs.declared.Sizes.{Sizes}
+use Rattle.rules.specs.declared.Verdict.the-variants.{Accepted, Refused}
+use Rattle.rules.specs.declared.Outcome.{Outcome}
+use Rattle.rules.specs.declared.Evaluated.{Evaluated}
+use Rattle.rules.specs.declared.Evaluated.the-variants.{Given, NotGiven}
+use Rattle.rules.specs.Packets.{Packets, mostPackets, valuesOf}
+use Rattle.rules.specs.Parts.{Part, parts, deep, namesOpen}
+use Rattle.rules.specs.Books.{mostDepth}
+use Rattle.rules.specs.Reading.{fieldsOf, bodyStart, useAt, partAt, mainOf, sizesOf, verdict}
+use Rattle.rules.specs.Working.{out, steps, room, width}
+use Rattle.rules.specs.Answers.{startSet, given, outcome, evaluated, evaluatedResult, overwritten}
+use Rattle.rules.proofs.Answering.{Granted, not-given-keeps, evaluated-refused, evaluated-packet, evaluated-buffer, evaluated-open, evaluated-wide, evaluated-given}
+use Rattle.rules.proofs.AcceptedBooks.{accepted-sizes, accepted-fields, accepted-parts, accepted-deep}
+use Rattle.packets.specs.declared.PacketSet.{PacketSet}
+use Rattle.packets.specs.Rows.{Whole, Is, rows}
+use Rattle.packets.specs.Areas.{Emitted}
+use Rattle.evaluator.specs.Work.{namedIn, partIn, Fair, Did, Sees, Answers}
+use Rattle.evaluator.specs.declared.Worked.{Worked}
+use Rattle.evaluator.specs.declared.Looked.{Looked}
+use Rattle.evaluator.proofs.WorkLaws.{rows-few, length-rows}
+
+-- what is answered beside the packets
+abbrev pub outcomeOf : Worked → Sizes → Outcome
+outcomeOf w z = record { count = w .set .count; steps = w .steps; parts = z .parts; deep = z .deep; room = w .room }
+
+-- the words of a set fit into 16 · k
+values-few : (k : ℕ) (s : Packets) → length (valuesOf k s) ≤ length s * k
+unfolding valuesOf
+values-few k [] = omega arith
+values-few k (x ∷ s) = simp (length-append, length-take, suc-mul) (omega (arith, values-few k s))
+
+fits-in : (k n v : ℕ) {l : ℕ} → v ≤ n * k → n ≤ mostPackets → 16 * k ≤ l → v ≤ l
+fits-in k n v h few room = omega (arith, mul-le-mul-right k few)
+
+-- a refusal leaves the result buffer as it was
+not-given : (s p b : List ℕ) (why : Refusal) → evaluated s p (length b) ≡ NotGiven why → Answers s p b b (NotGiven why)
+not-given s p b why e = (sym e, sym (not-given-keeps s p b why e))
+
+-- the fields of an accepted book
+module _ (s : List ℕ) (z : Sizes) (v : verdict s ≡ Accepted z) where
+  fields-are : z .fields ≡ fieldsOf s
+  unfolding sizesOf
+  fields-are = ap (λ (y : Sizes). y .fields) (accepted-sizes s z v)
+
+  pub fields-some : (1 ≤ z .fields) × (z .fields ≤ 8)
+  fields-some = rw fields-are (accepted-fields s z v)
+
+module _ (s p b : List ℕ) where
+  pub refused : (why : Refusal) → Refused why ≡ verdict s → Answers s p b b (NotGiven why)
+  refused why e = not-given s p b why (evaluated-refused s p (length b) why (sym e))
+
+  module _ (z : Sizes) (says : verdict s ≡ Accepted z) where
+    pub wrong-packet : (length p ≡ z .fields → ⊥) → Answers s p b b (NotGiven PacketLength)
+    wrong-packet h = not-given s p b PacketLength (evaluated-packet s p (length b) z says (λ q. h (q ∙ sym (fields-are s z says))))
+
+    module _ (long : length p ≡ z .fields) where
+      pub wrong-buffer : length b < 16 * z .fields → Answers s p b b (NotGiven BufferLength)
+      wrong-buffer h =
+          not-given s p b BufferLength (evaluated-buffer s p (length b) z says (long ∙ fields-are s z says) (rw (fields-are s z says) at h))
+
+      module _ (space : 16 * z .fields ≤ length b) where
+        enough : mostPackets * fieldsOf s ≤ length b
+        enough = rw (fields-are s z says) at space
+
+        pub unpopulated : namesOpen (mainOf s) ≡ true → Answers s p b b (NotGiven Unpopulated)
+        unpopulated e = not-given s p b Unpopulated (evaluated-open s p (length b) z says (long ∙ fields-are s z says) enough e)
+
+        module _ (closed : namesOpen (mainOf s) ≡ false) {m n : ℕ} {w : Worked} (d : Did (mainOf s) m (startSet p) n w) where
+          pub too-wide-is : w .wide ≡ true → Answers s p b b (NotGiven TooWide)
+          too-wide-is e =
+              not-given s p b TooWide (evaluated-wide s p (length b) z says (long ∙ fields-are s z says) enough closed (d .over e))
+
+          granted : w .wide ≡ false → Granted s p
+          granted e = record {
+            sizes = z;
+            accepted = says;
+            words = long ∙ fields-are s z says;
+            populated = closed;
+            narrow = d .fine e .narrow;
+          }
+
+          within : w .wide ≡ false → evaluated s p (length b) ≡ Given (outcome s p)
+          within e = evaluated-given s p (length b) (granted e) enough
+
+          pub given-is : w .wide ≡ false → (f : Bool) (o : List ℕ) → Emitted f (valuesOf (z .fields) (rows (w .set))) b o
+              → Answers s p b o (Given (outcomeOf w z))
+          unfolding evaluatedResult overwritten given outcome sizesOf
+          given-is e f o m =
+              let g = d .fine e in
+              let y = accepted-sizes s z says in
+              let few = values-few (z .fields) (rows (w .set)) in
+              let c : length (rows (w .set)) ≤ mostPackets = rows-few (w .set) (g .set .whole) in
+              let t : f ≡ true = m .fits ∙ le-leb _ _ (fits-in (z .fields) _ _ few c space) in
+              let n : w .set .count ≡ length (out (mainOf s) (startSet p)) = sym (length-rows (w .set)) ∙ ap length (g .set .same) in (
+                rw (within e, n, g .steps, g .room, y),
+                m .words ∙ rw (within e, t, fields-are s z says, g .set .same),
+              )
+
+-- the main policy, where its body starts
+main-is : (s : List ℕ) (start : ℕ) → start ≡ bodyStart s 0 → partIn s true mostDepth start ≡ mainOf s
+unfolding mainOf namedIn
+main-is s start e = rw e
+
+module _ (s : List ℕ) (start : ℕ) (e : start ≡ bodyStart s 0) where
+  pub open-is : {n : ℕ} {r : Looked} → Sees (partAt s (useAt s) mostDepth start) n r → namesOpen (mainOf s) ≡ r .found
+  unfolding mainOf
+  open-is k = rw (← e) (sym (k .found))
+
+  -- what evaluation of the main policy asks of an accepted book
+  pub main-fair : (z : Sizes) (ps : PacketSet) → verdict s ≡ Accepted z → namesOpen (mainOf s) ≡ false → Whole ps
+      → Fair (partIn s true mostDepth start) ps
+  main-fair z ps v closed k =
+      rw (main-is s start e) (record {
+        few = accepted-parts s z v;
+        shallow = accepted-deep s z v;
+        closed = closed;
+        whole = k;
+      })
+
+  pub main-did : (p : List ℕ) (ps : PacketSet) {m n : ℕ} {w : Worked} → Is ps m (startSet p)
+      → Did (partIn s true mostDepth start) (ps .mask) (rows ps) n w → Did (mainOf s) (ps .mask) (startSet p) n w
+  main-did p ps k d = rw (main-is s start e, k .same) at d

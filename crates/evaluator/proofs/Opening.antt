@@ -1,0 +1,133 @@
+-- Whether a part of the main body names an unpopulated table (9): what each way out of the walk says.
+use Prim.Native.Nat.{ℕ, zero, suc, _+_, _-_, _<_, _≤_}
+use native.Mathlib.Omega.{arith}
+use mathlib.Core.Path.{_≡_, refl, sym, ap, _∙_}
+use mathlib.Core.Bool.{Bool, true, false, cond, _||_}
+use mathlib.Core.Option.{none, some}
+use mathlib.Core.List.{List}
+use lib.Dec.{eqb}
+use lib.ListN.{length, getD}
+use borrow.Author.Tests.{eqb-true, eqb-false}
+use Rattle.rules.specs.declared.Shape.{Shape}
+use Rattle.rules.specs.Codes.{shapeAt, operandsOf, partsOf}
+use Rattle.rules.specs.Parts.{Part, Id, namesOpen}
+use Rattle.rules.specs.Books.{useOf, noUse, mostDepth}
+use Rattle.rules.specs.Reading.{skip, after, built, partAt, bodyAt, useAt, lengthAt, readsAt, writesAt, bodyStart}
+use Rattle.rules.proofs.ReadingLaws.{parts-small}
+use Rattle.evaluator.specs.Work.{Sees}
+use Rattle.evaluator.specs.declared.Looked.{Looked}
+use Rattle.evaluator.proofs.WorkLaws.{no}
+use Rattle.evaluator.proofs.Decoder.{Stands, stands-zero, stands-end, stands-code, stands-table}
+
+abbrev pub looked : Bool → ℕ → Looked
+looked f n = record { found = f; next = n }
+
+pub sees-there : {s : List ℕ} {named : ℕ → Part} {d at n : ℕ} {p : Part} {r : Looked} → Stands s named d at p n → Sees p n r
+    → Sees (partAt s named d at) (after s d at) r
+sees-there k h = rw (k .part, k .next) h
+
+sees-id : (n : ℕ) → Sees Id n (looked false n)
+unfolding namesOpen
+sees-id n = record { found = refl; next = λ _. refl }
+
+module _ (s : List ℕ) (named : ℕ → Part) (d at : ℕ) where
+  pub sees-zero : d ≡ 0 → Sees (partAt s named d at) (after s d at) (looked false at)
+  sees-zero e = sees-there (stands-zero s named d at e) (sees-id at)
+
+  pub sees-end : length s ≤ at → Sees (partAt s named d at) (after s d at) (looked false at)
+  sees-end h = sees-there (stands-end s named d at h) (sees-id at)
+
+-- by how many parts stand below
+abbrev over : ℕ → Bool → Bool → Bool
+over zero a b = false
+over (suc zero) a b = a
+over (suc (suc n)) a b = a || b
+
+module _ (s : List ℕ) (named : ℕ → Part) (at : ℕ) (l r : Part) where
+  names-built : (c : ℕ) → (c ≡ 8 → ⊥) → namesOpen (built s named at c l r) ≡ over (partsOf c) (namesOpen l) (namesOpen r)
+  unfolding built namesOpen
+  names-built zero h = refl
+  names-built (suc zero) h = refl
+  names-built (suc (suc zero)) h = refl
+  names-built (suc (suc (suc zero))) h = refl
+  names-built (suc (suc (suc (suc zero)))) h = refl
+  names-built (suc (suc (suc (suc (suc zero))))) h = refl
+  names-built (suc (suc (suc (suc (suc (suc zero)))))) h = refl
+  names-built (suc (suc (suc (suc (suc (suc (suc zero))))))) h = refl
+  names-built (suc (suc (suc (suc (suc (suc (suc (suc zero)))))))) h = absurd (h refl)
+  names-built (suc (suc (suc (suc (suc (suc (suc (suc (suc c))))))))) h = refl
+
+both : (n : ℕ) (a b : Bool) → a ≡ false → b ≡ false → over n a b ≡ false
+both zero a b e f = refl
+both (suc zero) a b e f = e
+both (suc (suc n)) a b e f = rw (e, f)
+
+first : (n : ℕ) (a b : Bool) → (n ≡ 0 → ⊥) → a ≡ true → over n a b ≡ true
+first zero a b z e = absurd (z refl)
+first (suc zero) a b z e = e
+first (suc (suc n)) a b z e = rw e
+
+-- a table's body names no table
+quiet : (s : List ℕ) (at : ℕ) (l r : Part) (c : ℕ) (b : Bool) → eqb c 8 ≡ b → namesOpen l ≡ false → namesOpen r ≡ false
+    → namesOpen (built s noUse at c l r) ≡ false
+unfolding built namesOpen
+quiet s at l r c true q e f = rw (eqb-true c 8 q)
+quiet s at l r c false q e f = names-built s noUse at l r c (eqb-false c 8 q) ∙ both (partsOf c) _ _ e f
+
+never : (s : List ℕ) (d at : ℕ) → namesOpen (partAt s noUse d at) ≡ false
+unfolding partAt namesOpen
+never s zero at = refl
+never s (suc d) at = quiet s at _ _ (getD s at 0) (eqb (getD s at 0) 8) refl (never s d _) (never s d _)
+
+pub names-use : (s : List ℕ) (x : ℕ) → namesOpen (useAt s x) ≡ eqb (lengthAt s x) 0
+unfolding useAt bodyAt namesOpen
+names-use s x = go (eqb (lengthAt s x) 0)
+  where
+    go : (b : Bool)
+        → namesOpen (useOf x (readsAt s x) (writesAt s x) (bodyStart s x) (cond b none (some (partAt s noUse mostDepth (bodyStart s x))))) ≡ b
+    go true = refl
+    go false = never s mostDepth (bodyStart s x)
+
+pub sees-use : (s : List ℕ) (x b y at : ℕ) (f : Bool) → f ≡ eqb y 0 → y ≡ lengthAt s b → b ≡ x → Sees (useAt s x) at (looked f at)
+sees-use s x b y at f e g q =
+    record { found = e ∙ ap (λ (z : ℕ). eqb z 0) (g ∙ ap (lengthAt s) q) ∙ sym (names-use s x); next = λ _. refl }
+
+-- a code other than 8, with its row of the table of codes
+module _ (s : List ℕ) (named : ℕ → Part) (d at : ℕ) (hd : d ≡ 0 → ⊥) (h : at < length s) (h8 : getD s at 0 ≡ 8 → ⊥)
+    (x : Shape) (ex : x ≡ shapeAt (getD s at 0)) where
+  stood : Stands s named d at
+      (built s named at (getD s at 0) (partAt s named (d - 1) (at + 1 + x .operands))
+      (partAt s named (d - 1) (after s (d - 1) (at + 1 + x .operands))))
+      (skip (partsOf (getD s at 0)) (after s (d - 1)) (at + 1 + x .operands))
+  stood = stands-code s named d at hd h (getD s at 0) (at + 1 + x .operands) refl (rw ex)
+
+  below : partsOf (getD s at 0) ≡ x .parts
+  below = rw ex
+
+  names : namesOpen (partAt s named d at)
+      ≡ over (x .parts) (namesOpen (partAt s named (d - 1) (at + 1 + x .operands)))
+      (namesOpen (partAt s named (d - 1) (after s (d - 1) (at + 1 + x .operands))))
+  names = ap namesOpen (stood .part) ∙ names-built s named at _ _ (getD s at 0) h8 ∙ rw below
+
+  place : after s d at ≡ skip (x .parts) (after s (d - 1)) (at + 1 + x .operands)
+  place = stood .next ∙ rw below
+
+  pub sees-none : x .parts ≡ 0 → Sees (partAt s named d at) (after s d at) (looked false (at + 1 + x .operands))
+  sees-none e = record { found = sym (names ∙ rw e); next = λ _. sym (place ∙ rw e) }
+
+  module _ {a : Looked} (k : Sees (partAt s named (d - 1) (at + 1 + x .operands)) (after s (d - 1) (at + 1 + x .operands)) a) where
+    pub sees-found : a .found ≡ true → (x .parts ≡ 0 → ⊥) → Sees (partAt s named d at) (after s d at) a
+    sees-found e z =
+        record { found = e ∙ sym (names ∙ first (x .parts) _ _ z (sym (k .found) ∙ e)); next = λ f. no (sym e ∙ f) }
+
+    pub sees-one : x .parts ≡ 1 → Sees (partAt s named d at) (after s d at) a
+    sees-one e = record { found = k .found ∙ sym (names ∙ rw e); next = λ f. k .next f ∙ sym (place ∙ rw e) }
+
+    pub sees-two : {r : Looked} → a .found ≡ false → (x .parts ≡ 0 → ⊥) → (x .parts ≡ 1 → ⊥)
+        → Sees (partAt s named (d - 1) (a .next)) (after s (d - 1) (a .next)) r → Sees (partAt s named d at) (after s d at) r
+    sees-two {r} e z o m =
+        let b : x .parts ≤ 2 = rw ex (parts-small (getD s at 0)) in
+        let t : x .parts ≡ 2 = omega arith in
+        let m′ = rw (k .next e) at m in
+        let l : namesOpen (partAt s named (d - 1) (at + 1 + x .operands)) ≡ false = sym (k .found) ∙ e in
+        record { found = m′ .found ∙ sym (names ∙ rw (t, l)); next = λ f. m′ .next f ∙ sym (place ∙ rw t) }

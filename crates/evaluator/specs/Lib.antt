@@ -1,0 +1,2 @@
+-- What the contracts of the evaluator say.
+pub mod Work
