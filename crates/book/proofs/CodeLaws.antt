@@ -1,5 +1,5 @@
 -- What a code stands for: cases over the nine codes, and the part at a place as its code builds it.
-use Prim.Native.Nat.{ℕ, zero, suc, _-_, _<_, _≤_}
+use Prim.Native.Nat.{ℕ, zero, suc, _-_, _≤_}
 use native.Mathlib.Numerals.{sub-one}
 use mathlib.Core.Path.{_≡_, refl}
 use mathlib.Core.List.{List}
@@ -32,7 +32,8 @@ part-end s named zero at h = refl
 part-end s named (suc d) at h = rw (List·getD-eq-default s 0 h)
 
 pub part-suc : (s : List ℕ) (named : ℕ → Part) (d at : ℕ) → (d ≡ 0 → ⊥)
-    → partAt s named d at ≡ built s named at (getD s at 0) (partAt s named (d - 1) (below s at)) (partAt s named (d - 1) (after s (d - 1) (below s at)))
+    → partAt s named d at ≡ built s named at (getD s at 0) (partAt s named (d - 1) (below s at))
+    (partAt s named (d - 1) (after s (d - 1) (below s at)))
 unfolding partAt
 part-suc s named zero at h = absurd (h refl)
 part-suc s named (suc d) at h = rw sub-one

@@ -1,5 +1,5 @@
 -- Plain laws of counting: each answer of the count from the counts below it.
-use Prim.Native.Nat.{ℕ, zero, suc, max, _+_, _-_, _<_, _≤_}
+use Prim.Native.Nat.{ℕ, suc, max, _+_, _-_, _<_, _≤_}
 use native.Mathlib.Omega.{arith}
 use native.Mathlib.Numerals.{add-one}
 use mathlib.Core.Path.{_≡_, refl, sym, ap, _∙_}
@@ -151,14 +151,16 @@ count-none s named b d at e =
     over-is b q (after s d at) (omega (arith, some-parts q))
 
 -- id, where nothing stands
-pub count-id : (s : List ℕ) (named : ℕ → Part) (b d at next : ℕ) (r : Counted) → (b ≡ 0 → ⊥) → partAt s named d at ≡ Id → next ≡ after s d at
+pub count-id : (s : List ℕ) (named : ℕ → Part) (b d at next : ℕ) (r : Counted) → (b ≡ 0 → ⊥) → partAt s named d at ≡ Id
+    → next ≡ after s d at
     → r ≡ Fits (sized 1 0 next) → Counts s named b d at r
 unfolding parts
 count-id s named b d at next r hb e en er =
     er ∙ fits-is b Id next (sized 1 0 next) (id-count next) (omega arith) ∙ rw (e, en)
 
 -- x is the row of the code at the place
-module _ (s : List ℕ) (named : ℕ → Part) (b d at : ℕ) (hb : b ≡ 0 → ⊥) (hd : d ≡ 0 → ⊥) (h : at < length s) (x : Shape) (ex : x ≡ shapeAt (getD s at 0)) where
+module _ (s : List ℕ) (named : ℕ → Part) (b d at : ℕ) (hb : b ≡ 0 → ⊥) (hd : d ≡ 0 → ⊥) (h : at < length s) (x : Shape)
+    (ex : x ≡ shapeAt (getD s at 0)) where
   left : Part
   left = partAt s named (d - 1) (below s at)
 
@@ -180,7 +182,8 @@ module _ (s : List ℕ) (named : ℕ → Part) (b d at : ℕ) (hb : b ≡ 0 → 
       let f : parts p ≡ c .parts = ap (λ (z : Count). z .parts) e in
       fits-is b p next (sized (c .parts) (c .deep) next) (at-place p c next e) (omega arith) ∙ rw (here, en)
 
-  pub count-leaf : (r : Counted) → (getD s at 0 ≡ 8 → ⊥) → x .parts ≡ 0 → r ≡ Fits (sized 1 0 (at + 1 + x .operands)) → Counts s named b d at r
+  pub count-leaf : (r : Counted) → (getD s at 0 ≡ 8 → ⊥) → x .parts ≡ 0 → r ≡ Fits (sized 1 0 (at + 1 + x .operands))
+      → Counts s named b d at r
   count-leaf r h8 e er =
       er ∙ to-here (sized 1 0 0) (at + 1 + x .operands) (no-parts s named at left right (getD s at 0) (sym row ∙ e) h8)
       (after-none s d at hd h x ex e) (omega arith)
@@ -240,8 +243,10 @@ module _ (s : List ℕ) (named : ℕ → Part) (b d at : ℕ) (hb : b ≡ 0 → 
             let w = left-was in
             let v = fits-was (b - 1 - parts left) right (after s (d - 1) (after s (d - 1) (below s at))) r k right-count q in
             let n : after s (d - 1) (after s (d - 1) (below s at)) ≡ after s d at =
-            after-two s d at hd h x ex (after s (d - 1) (below s at)) (after s (d - 1) (after s (d - 1) (below s at))) (rw (below-is s at x ex)) refl n0 n1 in
-            rw (ez, w .0, v .0) (to-here (twoOf (getD s at 0) (countOf left 0) (countOf right 0)) (after s (d - 1) (after s (d - 1) (below s at))) both n (omega arith))
+            after-two s d at hd h x ex (after s (d - 1) (below s at)) (after s (d - 1) (after s (d - 1) (below s at)))
+            (rw (below-is s at x ex)) refl n0 n1 in
+            rw (ez, w .0, v .0) (to-here (twoOf (getD s at 0) (countOf left 0) (countOf right 0))
+            (after s (d - 1) (after s (d - 1) (below s at))) both n (omega arith))
 
 -- a use of table x
 module _ (s : List ℕ) (main : Bool) (b x next : ℕ) (hb : 0 < b) where
@@ -254,7 +259,8 @@ module _ (s : List ℕ) (main : Bool) (b x next : ℕ) (hb : 0 < b) where
     unfolding useAt bodyAt parts
     use-open r z er =
         let q = eq-eqb (lengthAt s x) 0 (sym en ∙ z) in
-        er ∙ fits-is b (Open x (readsAt s x) (writesAt s x)) next (sized 1 0 next) (open-count x (readsAt s x) (writesAt s x) next) (omega arith)
+        er ∙ fits-is b (Open x (readsAt s x) (writesAt s x)) next (sized 1 0 next) (open-count x (readsAt s x) (writesAt s x) next)
+        (omega arith)
         ∙ rw (e, q)
 
     module _ (z : n ≡ 0 → ⊥) (at : ℕ) (ea : at ≡ bodyStart s x) (c : Counted)
@@ -286,7 +292,8 @@ module _ (s : List ℕ) (main : Bool) (b x next : ℕ) (hb : 0 < b) where
       unfolding table
       use-fits k q =
           let w = fits-was (b - 1) body (after s mostDepth at) c k body-count q in
-          rw (w .0) (fits-is b table next (sized (1 + parts body) (deep body) next) (table-count x (readsAt s x) (writesAt s x) at next body)
+          rw (w .0) (fits-is b table next (sized (1 + parts body) (deep body) next)
+          (table-count x (readsAt s x) (writesAt s x) at next body)
           (omega (arith, one-more)) ∙ rw table-is)
 
 -- the limits, by the count of the main policy

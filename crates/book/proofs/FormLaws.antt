@@ -1,19 +1,19 @@
 -- The numbers 1 to 6: each test as the code makes it, each refusal from the tests before it, and the verdict from them.
-use Prim.Native.Nat.{ℕ, zero, suc, _+_, _-_, _*_, _<_, _≤_}
+use Prim.Native.Nat.{ℕ, suc, _+_, _-_, _<_, _≤_}
 use native.Mathlib.Omega.{arith}
 use native.Mathlib.Nat.{sub-zero}
 use native.Mathlib.Numerals.{add-one}
-use mathlib.Core.Path.{_≡_, refl, sym, ap, _∙_}
+use mathlib.Core.Path.{_≡_, refl, sym, _∙_}
 use mathlib.Core.Bool.{Bool, true, false, not, _&&_}
 use mathlib.Core.List.{List, [], _∷_}
 use lib.Bits.{bitAnd}
-use lib.Dec.{ltb, leb, eqb}
-use lib.ListN.{length, getD}
+use lib.Dec.{leb, eqb}
+use lib.ListN.{length}
 use borrow.Author.Tests.{le-leb, lt-leb, leb-true, eqb-true, eq-eqb, ne-eqb, not-true, not-false}
 use Rattle.rules.specs.declared.Reading.{Reading}
 use Rattle.rules.specs.declared.Reading.the-variants.{Next, Wrong}
 use Rattle.rules.specs.declared.Refusal.{Refusal}
-use Rattle.rules.specs.declared.Refusal.the-variants.{BookLength, Counts, Lengths, EntryMasks, Form, Limits, Typing}
+use Rattle.rules.specs.declared.Refusal.the-variants.{BookLength, Counts, Lengths, EntryMasks, Form, Limits}
 use Rattle.rules.specs.declared.Sizes.{Sizes}
 use Rattle.rules.specs.declared.Verdict.{Verdict}
 use Rattle.rules.specs.declared.Verdict.the-variants.{Accepted, Refused}
@@ -24,7 +24,7 @@ use Rattle.rules.specs.Reading.{fieldsOf, tablesOf, readsAt, writesAt, bodyStar
 use Rattle.rules.proofs.Decoding.{and-was}
 use Rattle.rules.proofs.Whole.{Readable}
 use Rattle.book.specs.Counting.{limited}
-use Rattle.book.specs.Form.{passTyping, untyped, formVerdict, afterForm}
+use Rattle.book.specs.Form.{untyped, formVerdict, afterForm}
 
 -- 1
 pub too-short : (n : ℕ) → n < 2 → false ≡ (leb 2 n && leb n mostBytes)
@@ -85,7 +85,8 @@ last-form true [] z = refl
 last-form true (at ∷ l) z = refl
 last-form false l z = refl
 
-kept : (l : List ℕ) (z : Sizes) → unlessFault l (Accepted z) ≡ afterForm (untyped z (unlessFault l (Accepted z))) (unlessFault l (Accepted z))
+kept : (l : List ℕ) (z : Sizes) → unlessFault l (Accepted z)
+    ≡ afterForm (untyped z (unlessFault l (Accepted z))) (unlessFault l (Accepted z))
 kept [] z = refl
 kept (at ∷ l) z = refl
 
@@ -100,39 +101,50 @@ module _ (s : List ℕ) (t1 : Bool) (e1 : t1 ≡ (leb 2 (length s) && leb (lengt
   unfolding formVerdict verdict
   form-1 q = rw (← e1, not-true t1 q)
 
-  module _ (q1 : not t1 ≡ false) (t2 : Bool) (k m : ℕ) (ek : k ≡ fieldsOf s) (em : m ≡ tablesOf s) (e2 : t2 ≡ (leb 1 k && (leb k mostFields && leb m mostTables))) where
+  module _ (q1 : not t1 ≡ false) (t2 : Bool) (k m : ℕ) (ek : k ≡ fieldsOf s) (em : m ≡ tablesOf s)
+      (e2 : t2 ≡ (leb 1 k && (leb k mostFields && leb m mostTables))) where
+    p1 : t1 ≡ true
+    p1 = not-false t1 q1
+
     pub form-2 : not t2 ≡ true → Refused Counts ≡ formVerdict s
     unfolding formVerdict verdict
-    form-2 q = rw (← e1, not-false t1 q1, ← ek, ← em, ← e2, not-true t2 q)
+    form-2 q = rw (← e1, p1, ← ek, ← em, ← e2, not-true t2 q)
 
     module _ (q2 : not t2 ≡ false) (e : ℕ) (e3 : e ≡ bodyStart s (m + 1)) where
+      p2 : t2 ≡ true
+      p2 = not-false t2 q2
+
       next-table : bodyStart s (suc (tablesOf s)) ≡ e
       next-table = sym (e3 ∙ rw (add-one, em))
 
       pub form-3 : (e ≡ length s → ⊥) → Refused Lengths ≡ formVerdict s
       unfolding formVerdict verdict
-      form-3 q = rw (← e1, not-false t1 q1, ← ek, ← em, ← e2, not-false t2 q2, em, next-table, ne-eqb e (length s) q)
+      form-3 q = rw (← e1, p1, ← ek, ← em, ← e2, p2, em, next-table, ne-eqb e (length s) q)
 
       module _ (q3 : e ≡ length s) (t4 : Bool) (e4 : t4 ≡ masksRight s (suc (tablesOf s)) 0) where
         pub form-4 : not t4 ≡ true → Refused EntryMasks ≡ formVerdict s
         unfolding formVerdict verdict
-        form-4 q = rw (← e1, not-false t1 q1, ← ek, ← em, ← e2, not-false t2 q2, em, next-table, eq-eqb e (length s) q3, ← e4, not-true t4 q)
+        form-4 q = rw (← e1, p1, ← ek, ← em, ← e2, p2, em, next-table, eq-eqb e (length s) q3, ← e4, not-true t4 q)
 
         module _ (q4 : not t4 ≡ false) (r : Reading) (e5 : r ≡ readEntries s (suc (tablesOf s)) 0) where
+          p4 : t4 ≡ true
+          p4 = not-false t4 q4
+
           pub form-5 : (at : ℕ) → r ≡ Wrong at → Refused (Form at) ≡ formVerdict s
           unfolding formVerdict verdict
-          form-5 at q = rw (← e1, not-false t1 q1, ← ek, ← em, ← e2, not-false t2 q2, em, next-table, eq-eqb e (length s) q3, ← e4, not-false t4 q4, ← e5, q)
+          form-5 at q = rw (← e1, p1, ← ek, ← em, ← e2, p2, em, next-table, eq-eqb e (length s) q3, ← e4, p4, ← e5, q)
 
           pub form-6 : (a : ℕ) (v : Verdict) → r ≡ Next a → v ≡ limited s → v ≡ formVerdict s
           unfolding formVerdict verdict limited
-          form-6 a v q ev = ev ∙ rw (← e1, not-false t1 q1, ← ek, ← em, ← e2, not-false t2 q2, em, next-table, eq-eqb e (length s) q3, ← e4, not-false t4 q4, ← e5, q)
+          form-6 a v q ev = ev ∙ rw (← e1, p1, ← ek, ← em, ← e2, p2, em, next-table, eq-eqb e (length s) q3, ← e4, p4, ← e5, q)
               (last-form (leb (parts (mainOf s)) mostParts && leb (deep (mainOf s)) mostBeside) (typingFaults (policyOf s)) (sizesOf s))
 
 -- the whole verdict: the numbers 1 to 6, then the typing
 module _ (l : List ℕ) (z : Sizes) where
   abbrev inOrder : Bool → Bool → Bool → Bool → Reading → Bool → Verdict
   inOrder t1 t2 t3 t4 x t6 =
-      unless t1 BookLength (unless t2 Counts (unless t3 Lengths (unless t4 EntryMasks (unlessWrong x (unless t6 Limits (unlessFault l (Accepted z)))))))
+      unless t1 BookLength (unless t2 Counts (unless t3 Lengths
+      (unless t4 EntryMasks (unlessWrong x (unless t6 Limits (unlessFault l (Accepted z)))))))
 
   parted : (t1 t2 t3 t4 : Bool) (x : Reading) (t6 : Bool)
       → inOrder t1 t2 t3 t4 x t6 ≡ afterForm (untyped z (inOrder t1 t2 t3 t4 x t6)) (unlessFault l (Accepted z))
@@ -149,7 +161,8 @@ unfolding formVerdict verdict
 verdict-form s =
     parted (typingFaults (policyOf s)) (sizesOf s) (leb 2 (length s) && leb (length s) mostBytes)
     (leb 1 (fieldsOf s) && (leb (fieldsOf s) mostFields && leb (tablesOf s) mostTables)) (eqb (bodyStart s (suc (tablesOf s))) (length s))
-    (masksRight s (suc (tablesOf s)) 0) (readEntries s (suc (tablesOf s)) 0) (leb (parts (mainOf s)) mostParts && leb (deep (mainOf s)) mostBeside)
+    (masksRight s (suc (tablesOf s)) 0) (readEntries s (suc (tablesOf s)) 0)
+    (leb (parts (mainOf s)) mostParts && leb (deep (mainOf s)) mostBeside)
 
 -- what a book has, whose form is right: each test held
 module _ (l : List ℕ) (z y : Sizes) where
@@ -185,7 +198,8 @@ unfolding formVerdict verdict
 form-right s y e =
     let h = held (typingFaults (policyOf s)) (sizesOf s) y (leb 2 (length s) && leb (length s) mostBytes)
     (leb 1 (fieldsOf s) && (leb (fieldsOf s) mostFields && leb (tablesOf s) mostTables)) (eqb (bodyStart s (suc (tablesOf s))) (length s))
-    (masksRight s (suc (tablesOf s)) 0) (readEntries s (suc (tablesOf s)) 0) (leb (parts (mainOf s)) mostParts && leb (deep (mainOf s)) mostBeside) e in
+    (masksRight s (suc (tablesOf s)) 0) (readEntries s (suc (tablesOf s)) 0)
+    (leb (parts (mainOf s)) mostParts && leb (deep (mainOf s)) mostBeside) e in
     let b1 = and-was (leb 2 (length s)) (leb (length s) mostBytes) (h .one) in
     let b2 = and-was (leb 1 (fieldsOf s)) (leb (fieldsOf s) mostFields && leb (tablesOf s) mostTables) (h .two) in
     let b3 = and-was (leb (fieldsOf s) mostFields) (leb (tablesOf s) mostTables) (b2 .1) in (

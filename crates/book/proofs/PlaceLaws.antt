@@ -2,14 +2,14 @@
 use Prim.Native.Nat.{ℕ, zero, suc, _+_, _-_, _*_, _<_, _≤_}
 use native.Mathlib.Omega.{arith}
 use native.Mathlib.Numerals.{sub-one, add-one}
-use mathlib.Core.Path.{_≡_, refl, sym, ap, _∙_}
-use mathlib.Core.List.{List, [], _∷_}
-use lib.Dec.{ltb, lit≤}
+use mathlib.Core.Path.{_≡_, refl, sym, _∙_}
+use mathlib.Core.List.{List}
+use lib.Dec.{lit≤}
 use lib.ListN.{length, getD}
 use borrow.Author.Tests.{lt-ltb, le-ltb}
 use Rattle.rules.specs.Codes.{shapeAt, operandsOf, partsOf}
 use Rattle.rules.specs.declared.Shape.{Shape}
-use Rattle.rules.specs.Reading.{skip, below, after, bodyStart, lengthAt, numberAt, tablesOf}
+use Rattle.rules.specs.Reading.{skip, below, after, bodyStart, lengthAt}
 use Rattle.rules.proofs.ReadingLaws.{parts-small}
 
 operands-small : (c : ℕ) → operandsOf c ≤ 3
@@ -61,7 +61,8 @@ module _ (s : List ℕ) (d at : ℕ) (hd : d ≡ 0 → ⊥) (h : at < length s) 
   pub after-one : (m : ℕ) → m ≡ after s (d - 1) (at + 1 + x .operands) → x .parts ≡ 1 → m ≡ after s d at
   after-one m em e = em ∙ sym (after-suc ∙ rw e)
 
-  pub after-two : (m n : ℕ) → m ≡ after s (d - 1) (at + 1 + x .operands) → n ≡ after s (d - 1) m → (x .parts ≡ 0 → ⊥) → (x .parts ≡ 1 → ⊥) → n ≡ after s d at
+  pub after-two : (m n : ℕ) → m ≡ after s (d - 1) (at + 1 + x .operands) → n ≡ after s (d - 1) m → (x .parts ≡ 0 → ⊥) → (x .parts ≡ 1 → ⊥)
+      → n ≡ after s d at
   after-two m n em en h0 h1 =
       let b : x .parts ≤ 2 = parts-few (getD s at 0) x ex in
       let e : x .parts ≡ 2 = omega arith in

@@ -38,7 +38,8 @@ module _ (s : List ℕ) (c : Scope) (d : ℕ) (pred : Bool) (at : ℕ) (head : R
             sym (part-parts s c d pred at a (sym eh ∙ qa) hd b (sym eo ∙ qb)
             ∙ times-none (partBelow s c d pred at) (partsOf (getD s at 0)) b (sym row ∙ z))
 
-        module _ (n0 : x .parts ≡ 0 → ⊥) (pb : Bool) (ep : pb ≡ (eqb (getD s at 0) 4 || pred)) (l : Reading) (el : l ≡ readPart s c (d - 1) pb b) where
+        module _ (n0 : x .parts ≡ 0 → ⊥) (pb : Bool) (ep : pb ≡ (eqb (getD s at 0) 4 || pred)) (l : Reading)
+            (el : l ≡ readPart s c (d - 1) pb b) where
           left-is : partBelow s c d pred at b ≡ l
           left-is = below-is s c d pred at pb b l ep el
 
@@ -70,7 +71,8 @@ module _ (s : List ℕ) (c : Scope) (start : ℕ) (body : Reading) (eb : body �
   pub whole-rest : (a : ℕ) → body ≡ Next a → (a ≡ length s → ⊥) → Wrong a ≡ readBody s c start
   whole-rest a q e = sym (body-rest s c start a (sym eb ∙ q) e)
 
-pub body-over : (s : List ℕ) (c : Scope) (start end : ℕ) (r : Reading) → length s < end → r ≡ readBody s c start → r ≡ readBody (take end s) c start
+pub body-over : (s : List ℕ) (c : Scope) (start end : ℕ) (r : Reading) → length s < end → r ≡ readBody s c start
+    → r ≡ readBody (take end s) c start
 body-over s c start end r h e = let q : take end s ≡ s = take-all end s (le-of-lt h) in rw q e
 
 -- the body of an entry, by what its contents say

@@ -1,5 +1,5 @@
 -- The cycle of calls: what passes down, what falls, and what comes back up.
-use Prim.Native.Nat.{ℕ, suc, _+_, _-_, _*_, _≤_, _<_, max}
+use Prim.Native.Nat.{ℕ, _+_, _-_, _*_, _≤_, _<_}
 use native.Mathlib.Omega.{arith}
 use native.Mathlib.Numerals.{add-one}
 use mathlib.Core.Path.{_≡_, refl, sym, ap, _∙_}
@@ -8,10 +8,10 @@ use mathlib.Core.List.{List, [], _∷_}
 use lib.ListN.{length, getD, length-drop}
 use lib.Seq.{drop-cons, drop-length}
 use Rattle.rules.specs.Packets.{Packet, Packets, without, union, pairs, mostPackets}
-use Rattle.rules.specs.Parts.{Part, Id, Not, Sum, Seq, Beside, Table, parts, deep, namesOpen}
+use Rattle.rules.specs.Parts.{Part, Not, Sum, Seq, Beside, Table, parts, deep, namesOpen}
 use Rattle.rules.specs.Reading.{partAt, after}
-use Rattle.rules.specs.Working.{each, out, steps, room, own, widest, width}
-use Rattle.rules.proofs.Bounds.{limit, room-steps, handed, given, width-one, width-more}
+use Rattle.rules.specs.Working.{each, out, steps, room, own, width}
+use Rattle.rules.proofs.Bounds.{limit, room-steps, handed, width-one, width-more}
 use Rattle.packets.specs.declared.PacketSet.{PacketSet}
 use Rattle.packets.specs.declared.Made.{Made}
 use Rattle.packets.specs.Rows.{Whole, Is, Gives, rows}

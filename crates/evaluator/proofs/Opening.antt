@@ -9,7 +9,7 @@ use lib.Dec.{eqb}
 use lib.ListN.{length, getD}
 use borrow.Author.Tests.{eqb-true, eqb-false}
 use Rattle.rules.specs.declared.Shape.{Shape}
-use Rattle.rules.specs.Codes.{shapeAt, operandsOf, partsOf}
+use Rattle.rules.specs.Codes.{shapeAt, partsOf}
 use Rattle.rules.specs.Parts.{Part, Id, namesOpen}
 use Rattle.rules.specs.Books.{useOf, noUse, mostDepth}
 use Rattle.rules.specs.Reading.{skip, after, built, partAt, bodyAt, useAt, lengthAt, readsAt, writesAt, bodyStart}
@@ -17,7 +17,7 @@ use Rattle.rules.proofs.ReadingLaws.{parts-small}
 use Rattle.evaluator.specs.Work.{Sees}
 use Rattle.evaluator.specs.declared.Looked.{Looked}
 use Rattle.evaluator.proofs.WorkLaws.{no}
-use Rattle.evaluator.proofs.Decoder.{Stands, stands-zero, stands-end, stands-code, stands-table}
+use Rattle.evaluator.proofs.Decoder.{Stands, stands-zero, stands-end, stands-code}
 
 abbrev pub looked : Bool → ℕ → Looked
 looked f n = record { found = f; next = n }

@@ -3,10 +3,10 @@ use Prim.Native.Nat.{ℕ, _+_, _≤_, _<_, max}
 use native.Mathlib.Omega.{arith}
 use mathlib.Core.Path.{_≡_, refl, sym, ap, _∙_}
 use mathlib.Core.Bool.{Bool, true, false}
-use mathlib.Core.List.{List, [], _∷_, map}
+use mathlib.Core.List.{[], _∷_, map}
 use lib.Bits.{bitOr, bitXor}
 use lib.ListN.{length, getD}
-use borrow.Author.Tests.{leb-true, leb-false}
+use borrow.Author.Tests.{leb-false}
 use Rattle.rules.specs.Masks.{less}
 use Rattle.rules.specs.Packets.{Packet, Packets, without, passes, put, keep, lacks, gathered, mostPackets}
 use Rattle.rules.specs.Parts.{Part, Id, Drop, Test, Set, Not, Seq, Beside, Table}
@@ -14,7 +14,7 @@ use Rattle.rules.specs.Working.{each, out, steps, room, own, widest, width}
 use Rattle.rules.proofs.Bounds.{handed, given}
 use Rattle.packets.specs.declared.PacketSet.{PacketSet}
 use Rattle.packets.specs.declared.Made.{Made}
-use Rattle.packets.specs.Rows.{Whole, Is, Gives, rows, onlyIf}
+use Rattle.packets.specs.Rows.{Whole, Is, Gives, rows}
 use Rattle.packets.specs.Arrays.{blank}
 use Rattle.packets.proofs.Chunks.{length-chunks, getD-chunks}
 use Rattle.evaluator.specs.Work.{worked, Fine, Did, Joins}

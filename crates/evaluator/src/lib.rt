@@ -1,4 +1,5 @@
-// The evaluator: one packet through an accepted book.
+// The evaluator: one packet through a book (document 01, "Meaning", "Steps" and the numbers 8, 12, 9, 10).
+// evaluate_part and the functions of the codes call each other; all that they combine is done by functions outside that cycle.
 use packets::Made;
 use packets::PacketSet;
 use rules::Evaluated;
@@ -7,8 +8,8 @@ use rules::Refusal;
 use rules::Sizes;
 use rules::Verdict;
 ghost use mathlib.Core.Path.{_≡_};
-ghost use mathlib.Core.Bool.{Bool, true, false};
-ghost use mathlib.Core.List.{List, [], _∷_};
+ghost use mathlib.Core.Bool.{true, false};
+ghost use mathlib.Core.List.{[], _∷_};
 ghost use Prim.Native.Nat.{ℕ, _+_, _-_, _*_, _^_, _<_, _≤_, max};
 ghost use lib.ListN.{getD, length};
 ghost use Rattle.rules.specs.declared.Verdict.the-variants.{Accepted};
@@ -62,6 +63,7 @@ fn leaf(set: PacketSet, steps: u64, next: usize) -> Worked
     }
 }
 
+// Code 0 and unknown codes.
 fn id_of(ps: PacketSet, next: usize) -> Worked
     requires { ⌜ Whole ps ⌝ }
     ensures { λ r. ⌜ Did Id (ps .mask) (rows ps) next r ⌝ }
@@ -69,6 +71,7 @@ fn id_of(ps: PacketSet, next: usize) -> Worked
     leaf(ps, 0, next)
 }
 
+// Code 1.
 fn drop_of(ps: PacketSet, next: usize) -> Worked
     requires { ⌜ Whole ps ⌝ }
     ensures { λ r. ⌜ Did Drop (ps .mask) (rows ps) next r ⌝ }
@@ -85,22 +88,6 @@ fn number_at(book: &[u8], at: usize) -> u16
     (book::byte_at(book, at) as u16) * 256 + (book::byte_at(book, at + 1) as u16)
 }
 
-fn test_of(ps: PacketSet, f: usize, v: u16, next: usize) -> Worked
-    requires { ⌜ Whole ps ⌝ }
-    ensures { λ r. ⌜ Did (Test f v) (ps .mask) (rows ps) next r ⌝ }
-{
-    let some = packets::test(ps, f, v);
-    leaf(some, 1, next)
-}
-
-fn set_of(ps: PacketSet, f: usize, v: u16, next: usize) -> Worked
-    requires { ⌜ Whole ps ⌝ }
-    ensures { λ r. ⌜ Did (Set f v) (ps .mask) (rows ps) next r ⌝ }
-{
-    let changed = packets::set_field(ps, f, v);
-    leaf(changed, 1, next)
-}
-
 // Codes 2 and 3, their code at a place.
 fn test_at(book: &[u8], at: usize, ps: PacketSet) -> Worked
     requires { ⌜ (at < length (now book)) × Whole ps ⌝ }
@@ -108,7 +95,8 @@ fn test_at(book: &[u8], at: usize, ps: PacketSet) -> Worked
 {
     let f = book::byte_at(book, at + 1) as usize;
     let v = number_at(book, at + 2);
-    test_of(ps, f, v, at + 4)
+    let some = packets::test(ps, f, v);
+    leaf(some, 1, at + 4)
 }
 
 fn set_at(book: &[u8], at: usize, ps: PacketSet) -> Worked
@@ -117,7 +105,8 @@ fn set_at(book: &[u8], at: usize, ps: PacketSet) -> Worked
 {
     let f = book::byte_at(book, at + 1) as usize;
     let v = number_at(book, at + 2);
-    set_of(ps, f, v, at + 4)
+    let changed = packets::set_field(ps, f, v);
+    leaf(changed, 1, at + 4)
 }
 
 // The packets of ps that are not in x: packet by packet, not by whether x has any.

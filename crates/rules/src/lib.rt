@@ -85,41 +85,47 @@ pub enum Ran {
     NotRun(Refusal),
 }
 
+// A row of the table in two bytes: a walker has it at hand at every step, so the whole table is 18 bytes.
+struct Row {
+    operands: u8,
+    parts: u8,
+}
+
 // The nine codes: id, drop, test, set, not, sum, sequence, beside, table.
-const SHAPES: [Shape; 9] = [
-    Shape {
+const SHAPES: [Row; 9] = [
+    Row {
         operands: 0,
         parts: 0,
     },
-    Shape {
+    Row {
         operands: 0,
         parts: 0,
     },
-    Shape {
+    Row {
         operands: 3,
         parts: 0,
     },
-    Shape {
+    Row {
         operands: 3,
         parts: 0,
     },
-    Shape {
+    Row {
         operands: 0,
         parts: 1,
     },
-    Shape {
+    Row {
         operands: 0,
         parts: 2,
     },
-    Shape {
+    Row {
         operands: 0,
         parts: 2,
     },
-    Shape {
+    Row {
         operands: 2,
         parts: 2,
     },
-    Shape {
+    Row {
         operands: 1,
         parts: 0,
     },
@@ -131,7 +137,11 @@ pub fn shape_of(code: u8) -> Shape
 {
     if code < 9 {
         let i = code as usize;
-        SHAPES[i]
+        let row = SHAPES[i];
+        Shape {
+            operands: row.operands as usize,
+            parts: row.parts as usize,
+        }
     } else {
         Shape {
             operands: 0,

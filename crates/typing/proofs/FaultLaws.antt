@@ -1,22 +1,21 @@
 -- The faults that are judged on the bytes are document 01's: of a book whose form is right, in the same order at the same places.
-use Prim.Native.Nat.{ℕ, zero, suc, _+_, _*_, _^_, _<_, _≤_}
+use Prim.Native.Nat.{ℕ, zero, suc, _+_, _^_, _<_, _≤_}
 use native.Mathlib.Omega.{arith}
 use native.Mathlib.Nat.{lt-of-lt-of-le, zero-add}
 use mathlib.Core.Path.{_≡_, refl, sym, ap, _∙_}
-use mathlib.Core.Bool.{Bool, true, false, cond, _&&_}
+use mathlib.Core.Bool.{Bool, true, false, cond}
 use mathlib.Core.List.{List, [], _∷_, _++_, append-assoc}
-use mathlib.Core.Option.{Option, none, some}
-use lib.Bits.{or-lt}
-use lib.Dec.{ltb, eqb, lit≤}
-use lib.ListN.{length, getD, drop, length-append}
+use mathlib.Core.Option.{none, some}
+use lib.Dec.{eqb}
+use lib.ListN.{length, drop, length-append}
 use lib.Pow.{pow-mono}
-use borrow.Author.Tests.{lt-ltb, ltb-true, ltb-false, eq-eqb, ne-eqb, eqb-true}
+use borrow.Author.Tests.{lt-ltb, ne-eqb}
 use Rattle.rules.specs.declared.Reading.{Reading}
 use Rattle.rules.specs.declared.Reading.the-variants.{Next, Wrong}
 use Rattle.rules.specs.Codes.{operandsOf, partsOf}
 use Rattle.rules.specs.Parts.{Part, Id, Drop, Test, Set, Not, Sum, Seq, Beside, Table, Open, write, size}
-use Rattle.rules.specs.Typing.{tested, written, rightMasks, rightBeside, fitMasks, fits, wrongs}
-use Rattle.rules.specs.Books.{Scope, scopeOf, Fine, Entry, OfBody, bytesOf, masksFit, firstBody, noUse, mostDepth, mostFields, entries}
+use Rattle.rules.specs.Typing.{tested, written, rightMasks, rightBeside, fits, wrongs}
+use Rattle.rules.specs.Books.{Scope, scopeOf, Fine, Entry, OfBody, bytesOf, masksFit, noUse, mostDepth, mostFields, entries}
 use Rattle.rules.specs.Reading.{andThen, readTimes, partAt, fieldsOf, tablesOf, lengthAt, readsAt, writesAt, bodyStart, masksRight, bodyAt, useAt, mainOf}
 use Rattle.rules.specs.Reading.{tablesFrom, policyOf, wrongBody, misfit, wrongsIn, misfitsIn, typingFaults}
 use Rattle.rules.proofs.Decoding.{Bytes, and-was, reads, drop-head, size-positive}
@@ -47,7 +46,8 @@ one-first f b e n l el h = rw (el, h) (first-then l n (λ x. Next x))
 both-first : (f : ℕ → Reading) (b m e : ℕ) (l r : List ℕ) → f b ≡ firstFault l (Next m) → f m ≡ firstFault r (Next e)
     → readTimes 2 f b ≡ firstFault (l ++ r) (Next e)
 both-first f b m e l r el er =
-    rw el (first-then l m (λ x. andThen (f x) (λ y. Next y)) ∙ rw er (ap (firstFault l) (first-then r e (λ y. Next y)) ∙ sym (first-append l r (Next e))))
+    rw el (first-then l m (λ x. andThen (f x) (λ y. Next y))
+    ∙ rw er (ap (firstFault l) (first-then r e (λ y. Next y)) ∙ sym (first-append l r (Next e))))
 
 -- ---- one body
 
@@ -78,7 +78,8 @@ module _ (s : List ℕ) (c : Scope) (named : ℕ → Part) (few : c .fields ≤ 
   two-first d pred b n p q rest f e h left right =
       let g = e ∙ append-assoc (write p) (write q) rest in
       let l = reads s c named d pred b p (write q ++ rest) f g in
-      rw (← h) (both-first (judge s named d) b (b + size p) (b + size p + size q) (wrongs b p) (wrongs (b + size p) q) (left (write q ++ rest) g) (right rest (l .3)))
+      rw (← h) (both-first (judge s named d) b (b + size p) (b + size p + size q) (wrongs b p) (wrongs (b + size p) q)
+      (left (write q ++ rest) g) (right rest (l .3)))
 
   beside-first : (wp wq at : ℕ) (p q : Part) (r : Reading) (l : List ℕ) (n : ℕ)
       → rightMasks wp wq (low (tested p)) (low (written p)) (low (tested q)) (low (written q)) ≡ rightBeside wp wq p q
@@ -124,7 +125,8 @@ module _ (s : List ℕ) (c : Scope) (named : ℕ → Part) (few : c .fields ≤ 
       at-code d pred at (at + 3) 7 (Beside wp wq p q) _ rest refl (omega arith) f e
       ∙ beside-first wp wq at p q (readTimes 2 (judge s named d) (at + 3)) (wrongs (at + 3) p ++ wrongs (at + 3 + size p) q)
       (at + size (Beside wp wq p q)) (rw (mp .0, mp .1, mq .0, mq .1))
-      (two-first d pred (at + 3) (at + size (Beside wp wq p q)) p q rest (f .3) (rw three at (j .2)) (omega (arith, length-append (write p) (write q)))
+      (two-first d pred (at + 3) (at + size (Beside wp wq p q)) p q rest (f .3) (rw three at (j .2))
+      (omega (arith, length-append (write p) (write q)))
       (λ r w. judge-first d pred (at + 3) p r (f .3) w) (λ r w. judge-first d pred (at + 3 + size p) q r (f .4) w))
   judge-first (suc d) pred at (Table x r w start p) rest f e =
       at-code d pred at (at + 2) 8 (Table x r w start p) _ rest refl (omega arith) f e
@@ -187,12 +189,14 @@ module _ (s : List ℕ) (small : Bytes s) (r : Readable s) where
 
       go : (t : Bool) → drop at s ≡ bytesOf (cond t none (some p)) ++ drop (bodyStart s (suc (suc x))) s
           → OfBody (FineBody (fieldsOf s) (tablesOf s)) (cond t none (some p))
-          → (a : ℕ) × (cond t (Next 0) (judge s (uses s (eqb (suc x) 0)) mostDepth at) ≡ firstFault (wrongBody at (cond t none (some p))) (Next a))
+          → (a : ℕ) × (cond t (Next 0) (judge s (uses s (eqb (suc x) 0)) mostDepth at) ≡ firstFault (wrongBody at (cond t none (some p)))
+          (Next a))
       go true e f = (0, refl)
       go false e f = (
         at + size p,
         rw (ne-eqb (suc x) 0 (λ q. omega arith))
-            (judge-first s (scopeOf (fieldsOf s) (tablesOf s) false) noUse (r .fields .1) no-use mostDepth false at p (drop (bodyStart s (suc (suc x))) s) f e),
+            (judge-first s (scopeOf (fieldsOf s) (tablesOf s) false) noUse (r .fields .1) no-use mostDepth false at p
+            (drop (bodyStart s (suc (suc x))) s) f e),
       )
 
   table-fit : (x : ℕ) → OfBody (FineBody (fieldsOf s) (tablesOf s)) (bodyAt s (suc x))
@@ -207,13 +211,15 @@ module _ (s : List ℕ) (small : Bytes s) (r : Readable s) where
       p = partAt s noUse mostDepth (bodyStart s (suc x))
 
       go : (t : Bool) → OfBody (FineBody (fieldsOf s) (tablesOf s)) (cond t none (some p))
-          → cond t (Next 0) (cond (fitMasked (readsAt s (suc x)) (writesAt s (suc x)) (masksAt s (uses s (eqb (suc x) 0)) mostDepth at)) (Next 0) (Wrong at))
+          → cond t (Next 0) (cond (fitMasked (readsAt s (suc x)) (writesAt s (suc x)) (masksAt s (uses s (eqb (suc x) 0)) mostDepth at))
+          (Next 0) (Wrong at))
           ≡ firstFault (misfit at (tableAt s (suc x)) (cond t none (some p))) (Next 0)
       go true f = refl
       go false f =
           let m = small-masks s (scopeOf (fieldsOf s) (tablesOf s) false) noUse (r .fields .1) no-use mostDepth false p f in
           rw (ne-eqb (suc x) 0 (λ q. omega arith))
-          (fit-first (fitMasked (readsAt s (suc x)) (writesAt s (suc x)) (masksAt s noUse mostDepth at)) (fits (readsAt s (suc x)) (writesAt s (suc x)) p) at
+          (fit-first (fitMasked (readsAt s (suc x)) (writesAt s (suc x)) (masksAt s noUse mostDepth at))
+          (fits (readsAt s (suc x)) (writesAt s (suc x)) p) at
           (rw (m .0, m .1)))
 
   tables-first : (n x : ℕ) → AllStand s (suc x) (tablesFrom s n (suc x)) → FineBodies s (tablesFrom s n (suc x))
@@ -229,7 +235,8 @@ module _ (s : List ℕ) (small : Bytes s) (r : Readable s) where
       let ih = tables-first n (suc x) (st .1) (f .1) in
       let e = next-start s (suc x) (tableAt s (suc x)) (st .0) in (
         turn-first (judgeEntry s) n (suc x) (t .0) (wrongBody at (bodyAt s (suc x))) (wrongsIn next rest) (t .1) (rw e at (ih .0)),
-        turn-first (fitEntry s) n (suc x) 0 (misfit at (tableAt s (suc x)) (bodyAt s (suc x))) (misfitsIn next rest) (table-fit x (f .0)) (rw e at (ih .1)),
+        turn-first (fitEntry s) n (suc x) 0 (misfit at (tableAt s (suc x)) (bodyAt s (suc x))) (misfitsIn next rest) (table-fit x (f .0))
+            (rw e at (ih .1)),
       )
 
   -- the main policy
@@ -242,7 +249,8 @@ module _ (s : List ℕ) (small : Bytes s) (r : Readable s) where
     unfolding judgeEntry bytesOf
     main-first =
         rw has-main
-        (judge-first s (scopeOf (fieldsOf s) (tablesOf s) true) (useAt s) (r .fields .1) main-uses mostDepth false (bodyStart s 0) (mainOf s)
+        (judge-first s (scopeOf (fieldsOf s) (tablesOf s) true) (useAt s) (r .fields .1) main-uses mostDepth false (bodyStart s 0)
+        (mainOf s)
         (drop (bodyStart s 1) s) f (st .bytes))
 
     main-fit : fitEntry s 0 ≡ firstFault (misfit (bodyStart s 0) (mainAt s) (some (mainOf s))) (Next 0)
@@ -250,7 +258,8 @@ module _ (s : List ℕ) (small : Bytes s) (r : Readable s) where
     main-fit =
         let m = small-masks s (scopeOf (fieldsOf s) (tablesOf s) true) (useAt s) (r .fields .1) main-uses mostDepth false (mainOf s) f in
         rw has-main
-        (fit-first (fitMasked (readsAt s 0) (writesAt s 0) (masksAt s (useAt s) mostDepth (bodyStart s 0))) (fits (readsAt s 0) (writesAt s 0) (mainOf s))
+        (fit-first (fitMasked (readsAt s 0) (writesAt s 0) (masksAt s (useAt s) mostDepth (bodyStart s 0)))
+        (fits (readsAt s 0) (writesAt s 0) (mainOf s))
         (bodyStart s 0) (rw (m .0, m .1)))
 
   -- all bodies: every concurrent part, then every fit
@@ -268,8 +277,10 @@ module _ (s : List ℕ) (small : Bytes s) (r : Readable s) where
       let t = tables-first m 0 (w .0 .1) (w .2) in
       let e : bodyStart s 1 ≡ next = next-start s 0 (mainAt s) (w .0 .0) in
       let judged : inTurn (judgeEntry s) (suc m) 0 ≡ firstFault wrong (Next 0)
-      = turn-first (judgeEntry s) m 0 (at + size (mainOf s)) (wrongs at (mainOf s)) (wrongsIn next rest) (main-first (w .0 .0) (w .1)) (rw e at (t .0)) in
+      = turn-first (judgeEntry s) m 0 (at + size (mainOf s)) (wrongs at (mainOf s)) (wrongsIn next rest) (main-first (w .0 .0) (w .1))
+      (rw e at (t .0)) in
       let fit : inTurn (fitEntry s) (suc m) 0 ≡ firstFault unfit (Next 0)
-      = turn-first (fitEntry s) m 0 0 (misfit at (mainAt s) (some (mainOf s))) (misfitsIn next rest) (main-fit (w .0 .0) (w .1)) (rw e at (t .1)) in
+      = turn-first (fitEntry s) m 0 0 (misfit at (mainAt s) (some (mainOf s))) (misfitsIn next rest) (main-fit (w .0 .0) (w .1))
+      (rw e at (t .1)) in
       rw (tables-length s m 1, judged)
       (first-then wrong 0 (λ a. inTurn (fitEntry s) (suc m) 0) ∙ rw fit (sym (first-append wrong unfit (Next 0))))

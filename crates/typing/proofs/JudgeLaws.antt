@@ -4,11 +4,11 @@ use native.Mathlib.Omega.{arith}
 use native.Mathlib.Nat.{sub-zero}
 use native.Mathlib.Numerals.{sub-one}
 use mathlib.Core.Path.{_≡_, refl, sym, ap, _∙_}
-use mathlib.Core.Bool.{Bool, true, false, not, cond, _&&_}
+use mathlib.Core.Bool.{Bool, true, false, not, cond}
 use mathlib.Core.List.{List}
 use mathlib.Core.Option.{Option, none, some}
 use lib.Bits.{bitAnd, bitOr}
-use lib.Dec.{ltb, eqb}
+use lib.Dec.{eqb}
 use lib.ListN.{length, getD}
 use borrow.Author.Tests.{lt-ltb, le-ltb, eq-eqb, ne-eqb, not-true, not-false}
 use Rattle.rules.specs.Codes.{shapeAt, partsOf}
@@ -16,14 +16,14 @@ use Rattle.rules.specs.declared.Shape.{Shape}
 use Rattle.rules.specs.declared.Reading.{Reading}
 use Rattle.rules.specs.declared.Reading.the-variants.{Next, Wrong}
 use Rattle.rules.specs.Masks.{apart, within}
-use Rattle.rules.specs.Parts.{Part, Beside}
+use Rattle.rules.specs.Parts.{Part}
 use Rattle.rules.specs.Typing.{rightMasks, fitMasks}
 use Rattle.rules.specs.Books.{mostDepth, useOf}
-use Rattle.rules.specs.Reading.{andThen, readTimes, below, after, built, partAt, tablesOf, lengthAt, readsAt, writesAt, bodyStart, bodyAt, useAt}
+use Rattle.rules.specs.Reading.{andThen, readTimes, below, after, built, partAt, lengthAt, readsAt, writesAt, bodyStart, bodyAt, useAt}
 use Rattle.rules.proofs.ReadingLaws.{times-none, times-wrong, times-one, times-two}
 use Rattle.book.specs.Counting.{uses}
 use Rattle.book.proofs.CodeLaws.{by-code, part-suc}
-use Rattle.book.proofs.PlaceLaws.{below-is, parts-few}
+use Rattle.book.proofs.PlaceLaws.{parts-few}
 use Rattle.typing.specs.declared.Masks.{Masks}
 use Rattle.typing.specs.Judging.{masksAt, rightHere, judge, judgeEntry, fitMasked, fitEntry, inTurn}
 
@@ -79,17 +79,20 @@ module _ (s : List ℕ) (main : Bool) (d at : ℕ) (h : 0 < d) where
   other-code : (l r : Part) (c : ℕ) → (c ≡ 7 → ⊥) → rightHere (built s (uses s main) at c l r) ≡ true
   unfolding built rightHere
   other-code l r =
-      by-code (λ c. (c ≡ 7 → ⊥) → rightHere (built s (uses s main) at c l r) ≡ true) (λ n. refl) (λ n. refl) (λ n. refl) (λ n. refl) (λ n. refl)
+      by-code (λ c. (c ≡ 7 → ⊥) → rightHere (built s (uses s main) at c l r) ≡ true) (λ n. refl) (λ n. refl) (λ n. refl) (λ n. refl)
+      (λ n. refl)
       (λ n. refl) (λ n. refl) (λ n. absurd (n refl)) (λ n. uses-right s main (getD s (at + 1) 0)) (λ c n. refl)
 
   here : partAt s (uses s main) d at
-      ≡ built s (uses s main) at (getD s at 0) (partAt s (uses s main) (d - 1) (below s at)) (partAt s (uses s main) (d - 1) (after s (d - 1) (below s at)))
+      ≡ built s (uses s main) at (getD s at 0) (partAt s (uses s main) (d - 1) (below s at))
+      (partAt s (uses s main) (d - 1) (after s (d - 1) (below s at)))
   here = part-suc s (uses s main) d at (λ e. omega arith)
 
   pub here-other : (getD s at 0 ≡ 7 → ⊥) → true ≡ rightHere (partAt s (uses s main) d at)
   here-other n =
       sym (ap rightHere here
-      ∙ other-code (partAt s (uses s main) (d - 1) (below s at)) (partAt s (uses s main) (d - 1) (after s (d - 1) (below s at))) (getD s at 0) n)
+      ∙ other-code (partAt s (uses s main) (d - 1) (below s at)) (partAt s (uses s main) (d - 1) (after s (d - 1) (below s at)))
+      (getD s at 0) n)
 
   pub here-beside : (a b : ℕ) (l r : Masks) → getD s at 0 ≡ 7 → a ≡ getD s (at + 1) 0 → b ≡ getD s (at + 2) 0
       → l ≡ masksAt s (uses s main) (d - 1) (at + 3) → r ≡ masksAt s (uses s main) (d - 1) (l .next)

@@ -1,20 +1,19 @@
 -- Plain laws of the walk that gives T and M: each answer from the masks below it.
-use Prim.Native.Nat.{ℕ, zero, suc, _+_, _-_, _*_, _^_, _%_, _<_, _≤_}
+use Prim.Native.Nat.{ℕ, _+_, _-_, _^_, _%_, _<_, _≤_}
 use native.Mathlib.Omega.{arith}
 use native.Mathlib.Nat.{mod-eq-of-lt, mul-mod-left}
 use mathlib.Core.Path.{_≡_, refl, sym, ap, _∙_}
-use mathlib.Core.Bool.{Bool, true, false, cond}
+use mathlib.Core.Bool.{Bool, true, false}
 use mathlib.Core.List.{List}
 use mathlib.Core.Option.{Option, none, some}
 use lib.Bits.{bitOr, or-mod}
-use lib.Dec.{eqb}
 use lib.ListN.{length, getD}
 use lib.Pow.{pow-add}
 use borrow.Author.Tests.{eq-eqb, ne-eqb}
 use Rattle.rules.specs.Codes.{shapeAt, partsOf}
 use Rattle.rules.specs.declared.Shape.{Shape}
 use Rattle.rules.specs.Masks.{field}
-use Rattle.rules.specs.Parts.{Part, Id, Drop, Test, Set, Not, Sum, Seq, Beside, Table, Open}
+use Rattle.rules.specs.Parts.{Part, Id}
 use Rattle.rules.specs.Typing.{tested, written}
 use Rattle.rules.specs.Books.{useOf}
 use Rattle.rules.specs.Reading.{below, after, built, partAt, readsAt, writesAt, bodyStart, bodyAt, useAt}
@@ -36,7 +35,9 @@ pub low-small : (a : ℕ) → a < 256 → low a ≡ a
 low-small a h = mod-eq-of-lt h
 
 pub low-field : (f : ℕ) → 8 ≤ f → 0 ≡ low (field f)
-low-field f h = let e : f ≡ f - 8 + 8 = omega arith in rw e (sym (ap (λ (x : ℕ). x % 256) (pow-add 2 (f - 8) 8) ∙ mul-mod-left (2 ^ (f - 8)) 256))
+low-field f h =
+    let e : f ≡ f - 8 + 8 = omega arith in
+    rw e (sym (ap (λ (x : ℕ). x % 256) (pow-add 2 (f - 8) 8) ∙ mul-mod-left (2 ^ (f - 8)) 256))
 
 -- ---- the masks of a code and its operands
 
@@ -102,7 +103,8 @@ module _ (s : List ℕ) (named : ℕ → Part) (at n : ℕ) (l r : Part) where
   over-one : (c : ℕ) → partsOf c ≡ 1 → masksOf l n ≡ masksOf (built s named at c l r) n
   unfolding built tested written
   over-one =
-      by-code (λ c. partsOf c ≡ 1 → masksOf l n ≡ masksOf (built s named at c l r) n) (λ e. absurd (omega arith)) (λ e. absurd (omega arith))
+      by-code (λ c. partsOf c ≡ 1 → masksOf l n ≡ masksOf (built s named at c l r) n) (λ e. absurd (omega arith))
+      (λ e. absurd (omega arith))
       (λ e. absurd (omega arith)) (λ e. absurd (omega arith)) (λ e. refl) (λ e. absurd (omega arith)) (λ e. absurd (omega arith))
       (λ e. absurd (omega arith)) (λ e. absurd (omega arith)) (λ c e. absurd (omega arith))
 
@@ -110,7 +112,8 @@ module _ (s : List ℕ) (named : ℕ → Part) (at n : ℕ) (l r : Part) where
       → pairMasks c (masksOf (built s named at c Id Id) o) (masksOf l a) (masksOf r n) ≡ masksOf (built s named at c l r) n
   unfolding built tested written
   over-two a o =
-      by-code (λ c. partsOf c ≡ 2 → pairMasks c (masksOf (built s named at c Id Id) o) (masksOf l a) (masksOf r n) ≡ masksOf (built s named at c l r) n)
+      by-code (λ c. partsOf c ≡ 2 → pairMasks c (masksOf (built s named at c Id Id) o) (masksOf l a) (masksOf r n)
+      ≡ masksOf (built s named at c l r) n)
       (λ e. absurd (omega arith)) (λ e. absurd (omega arith)) (λ e. absurd (omega arith)) (λ e. absurd (omega arith))
       (λ e. absurd (omega arith)) (λ e. rw (low-or (tested l) (tested r), low-or (written l) (written r)))
       (λ e. rw (low-or (tested l) (tested r), low-or (written l) (written r))) (λ e. rw (low-or (tested l) (tested r)))

@@ -1,6 +1,6 @@
 -- The typing as it is judged on the bytes: masks of eight bits, and each fault at the place where the bytes have it.
-use Prim.Native.Nat.{ℕ, zero, suc, _+_, _%_}
-use mathlib.Core.Bool.{Bool, true, false, cond}
+use Prim.Native.Nat.{ℕ, zero, suc, _%_}
+use mathlib.Core.Bool.{Bool, true, cond}
 use mathlib.Core.List.{List}
 use lib.Bits.{bitOr}
 use lib.Dec.{ltb, eqb}
@@ -11,7 +11,7 @@ use Rattle.rules.specs.Codes.{partsOf}
 use Rattle.rules.specs.Parts.{Part, Id, Drop, Test, Set, Not, Sum, Seq, Beside, Table, Open}
 use Rattle.rules.specs.Typing.{tested, written, rightMasks, fitMasks}
 use Rattle.rules.specs.Books.{mostDepth}
-use Rattle.rules.specs.Reading.{andThen, readTimes, below, after, partAt, tablesOf, lengthAt, readsAt, writesAt, bodyStart}
+use Rattle.rules.specs.Reading.{andThen, readTimes, below, after, partAt, lengthAt, readsAt, writesAt, bodyStart}
 use Rattle.book.specs.Counting.{uses}
 use Rattle.typing.specs.declared.Masks.{Masks}
 
@@ -64,7 +64,8 @@ fitMasked r w p = fitMasks r w (p .tests) (p .writes)
 unfoldable pub fitEntry : List ℕ → ℕ → Reading
 fitEntry s x =
     cond (eqb (lengthAt s x) 0) (Next 0)
-    (cond (fitMasked (readsAt s x) (writesAt s x) (masksAt s (uses s (eqb x 0)) mostDepth (bodyStart s x))) (Next 0) (Wrong (bodyStart s x)))
+    (cond (fitMasked (readsAt s x) (writesAt s x) (masksAt s (uses s (eqb x 0)) mostDepth (bodyStart s x))) (Next 0)
+    (Wrong (bodyStart s x)))
 
 -- n entries from x on, up to the first fault
 unfoldable pub inTurn : (ℕ → Reading) → ℕ → ℕ → Reading

@@ -3,7 +3,7 @@ use rules::Reading;
 use rules::Refusal;
 use rules::Verdict;
 ghost use mathlib.Core.Path.{_≡_};
-ghost use mathlib.Core.Bool.{Bool, true, false};
+ghost use mathlib.Core.Bool.{true, false};
 ghost use Prim.Native.Nat.{suc, _<_};
 ghost use lib.ListN.{getD, length};
 ghost use Rattle.rules.specs.Masks.{field};

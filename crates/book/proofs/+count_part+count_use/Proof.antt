@@ -65,52 +65,151 @@ count-part-returns : (t : ℕ) → count-part-lts.Need-returns (count-part-calls
 count-part-returns t c = count-none _ _ _ _ _ (c .if1 .taken)
 
 count-part-returns-2 : (t : ℕ) → count-part-lts.Need-returns-2 (count-part-calls t) (count-part-at t) count-part.Post
-count-part-returns-2 t c = count-id _ _ _ _ _ _ _ (c .before .before .if1 .left) (part-zero _ _ _ _ (c .before .if2 .taken)) (after-zero _ _ _ (c .before .if2 .taken)) (c .one-part .ensures)
+count-part-returns-2 t c =
+    let at-if2 = c .before in
+    let at-if1 = at-if2 .before in
+    count-id _ _ _ _ _ _ _ (at-if1 .if1 .left) (part-zero _ _ _ _ (at-if2 .if2 .taken)) (after-zero _ _ _ (at-if2 .if2 .taken))
+    (c .one-part .ensures)
 
 count-part-returns-3 : (t : ℕ) → count-part-lts.Need-returns-3 (count-part-calls t) (count-part-at t) count-part.Post
-count-part-returns-3 t c = count-id _ _ _ _ _ _ _ (c .before .before .before .if1 .left) (part-end _ _ _ _ (c .before .if3 .taken)) (after-end _ _ _ (c .before .if3 .taken)) (c .one-part2 .ensures)
+count-part-returns-3 t c =
+    let at-if3 = c .before in
+    let at-if1 = at-if3 .before .before in
+    count-id _ _ _ _ _ _ _ (at-if1 .if1 .left) (part-end _ _ _ _ (at-if3 .if3 .taken)) (after-end _ _ _ (at-if3 .if3 .taken))
+    (c .one-part2 .ensures)
 
 count-part-add-from-2 : (t : ℕ) → count-part-lts.Need-add-from-2 (count-part-calls t) (count-part-at t) count-part.Post
-count-part-add-from-2 t c = omega (arith, operands-few (getD (c .before .before .before .before .before .before .before .args .book .now) (c .before .before .before .before .before .before .before .args .at) 0) _ (c .before .shape-of .ensures), c .before .before .before .before .before .before .before .good .0 .1, c .before .before .before .if3 .left)
+count-part-add-from-2 t c =
+    let at-shape-of = c .before in
+    let at-if3 = at-shape-of .before .before in
+    let start = at-if3 .before .before .before .before in
+    omega (
+      arith,
+      operands-few (getD (start .args .book .now) (start .args .at) 0) _ (at-shape-of .shape-of .ensures),
+      start .good .0 .1,
+      at-if3 .if3 .left,
+    )
 
 count-part-count-use-requires : (t : ℕ) → count-part-lts.Need-count-use-requires (count-part-calls t) (count-part-at t) count-part.Post
-count-part-count-use-requires t c κs = (omega (arith, c .before .before .before .before .before .before .before .before .before .pre .0, c .before .before .before .before .before .before .before .if1 .left), (omega (arith, c .before .before .before .before .before .before .before .if1 .left), c .before .before .before .before .before .before .before .before .before .pre .1))
+count-part-count-use-requires t c κs =
+    let at-if1 = c .before .before .before .before .before .before .before in
+    let start = at-if1 .before .before in
+    (omega (arith, start .pre .0, at-if1 .if1 .left), (omega (arith, at-if1 .if1 .left), start .pre .1))
 
 count-part-returns-4 : (t : ℕ) → count-part-lts.Need-returns-4 (count-part-calls t) (count-part-at t) count-part.Post
-count-part-returns-4 t c = count-table _ _ _ _ _ (c .before .before .before .before .before .before .before .before .if1 .left) (c .before .before .before .before .before .before .before .if2 .left) (c .before .before .before .before .before .before .if3 .left) _ (c .before .before .before .before .shape-of .ensures) _ _ (c .before .before .if4 .taken) (c .before .byte-at .ensures) (c .count-use .ensures)
+count-part-returns-4 t c =
+    let at-byte-at = c .before in
+    let at-if4 = at-byte-at .before in
+    let at-shape-of = at-if4 .before .before in
+    let at-if3 = at-shape-of .before .before in
+    let at-if2 = at-if3 .before in
+    let at-if1 = at-if2 .before in
+    count-table _ _ _ _ _ (at-if1 .if1 .left) (at-if2 .if2 .left) (at-if3 .if3 .left) _ (at-shape-of .shape-of .ensures) _ _
+    (at-if4 .if4 .taken) (at-byte-at .byte-at .ensures) (c .count-use .ensures)
 
 count-part-returns-5 : (t : ℕ) → count-part-lts.Need-returns-5 (count-part-calls t) (count-part-at t) count-part.Post
-count-part-returns-5 t c = count-leaf _ _ _ _ _ (c .before .before .before .before .before .before .before .before .if1 .left) (c .before .before .before .before .before .before .before .if2 .left) (c .before .before .before .before .before .before .if3 .left) _ (c .before .before .before .before .shape-of .ensures) _ (c .before .before .if4 .left) (c .before .if5 .taken) (c .one-part3 .ensures)
+count-part-returns-5 t c =
+    let at-if5 = c .before in
+    let at-if4 = at-if5 .before in
+    let at-shape-of = at-if4 .before .before in
+    let at-if3 = at-shape-of .before .before in
+    let at-if2 = at-if3 .before in
+    let at-if1 = at-if2 .before in
+    count-leaf _ _ _ _ _ (at-if1 .if1 .left) (at-if2 .if2 .left) (at-if3 .if3 .left) _ (at-shape-of .shape-of .ensures) _
+    (at-if4 .if4 .left) (at-if5 .if5 .taken) (c .one-part3 .ensures)
 
 count-part-count-part-requires : (t : ℕ) → count-part-lts.Need-count-part-requires (count-part-calls t) (count-part-at t) count-part.Post
-count-part-count-part-requires t c κs = (omega (arith, c .before .before .before .before .before .before .before .before .before .pre .0, c .before .before .before .before .before .before .before .if1 .left), omega (arith, c .before .before .before .before .before .before .before .before .before .pre .1))
+count-part-count-part-requires t c κs =
+    let at-if1 = c .before .before .before .before .before .before .before in
+    let start = at-if1 .before .before in
+    (omega (arith, start .pre .0, at-if1 .if1 .left), omega (arith, start .pre .1))
 
 count-part-returns-6 : (t : ℕ) → count-part-lts.Need-returns-6 (count-part-calls t) (count-part-at t) count-part.Post
-count-part-returns-6 t c = count-left-over _ _ _ _ _ (c .before .before .before .before .before .before .before .before .before .before .if1 .left) (c .before .before .before .before .before .before .before .before .before .if2 .left) (c .before .before .before .before .before .before .before .before .if3 .left) _ (c .before .before .before .before .before .before .shape-of .ensures) (c .before .before .before .if5 .left) _ (c .before .before .count-part .ensures) (c .enum-told .given .1)
+count-part-returns-6 t c =
+    let at-count-part = c .before .before in
+    let at-if5 = at-count-part .before in
+    let at-shape-of = at-if5 .before .before .before in
+    let at-if3 = at-shape-of .before .before in
+    let at-if2 = at-if3 .before in
+    let at-if1 = at-if2 .before in
+    count-left-over _ _ _ _ _ (at-if1 .if1 .left) (at-if2 .if2 .left) (at-if3 .if3 .left) _ (at-shape-of .shape-of .ensures)
+    (at-if5 .if5 .left) _ (at-count-part .count-part .ensures) (c .enum-told .given .1)
 
 count-part-add-t22 : (t : ℕ) → count-part-lts.Need-add-t22 (count-part-calls t) (count-part-at t) count-part.Post
-count-part-add-t22 t c = omega (arith, count-few _ _ _ _ _ (c .before .before .before .before .before .count-part .ensures) (c .before .before .before .left .given .1) .0, c .before .before .before .before .before .before .before .before .before .before .before .before .before .before .before .pre .1)
+count-part-add-t22 t c =
+    let at-left = c .before .before .before in
+    let at-count-part = at-left .before .before in
+    let start = at-count-part .before .before .before .before .before .before .before .before .before .before in
+    omega (arith, count-few _ _ _ _ _ (at-count-part .count-part .ensures) (at-left .left .given .1) .0, start .pre .1)
 
 count-part-returns-7 : (t : ℕ) → count-part-lts.Need-returns-7 (count-part-calls t) (count-part-at t) count-part.Post
-count-part-returns-7 t c = count-one _ _ _ _ _ (c .before .before .before .before .before .before .before .before .before .before .before .before .before .if1 .left) (c .before .before .before .before .before .before .before .before .before .before .before .before .if2 .left) (c .before .before .before .before .before .before .before .before .before .before .before .if3 .left) _ (c .before .before .before .before .before .before .before .before .before .shape-of .ensures) (c .before .before .before .before .before .before .if5 .left) _ (c .before .before .before .before .before .count-part .ensures) _ (c .before .before .before .left .given .1) (c .before .if6 .taken)
+count-part-returns-7 t c =
+    let at-if6 = c .before in
+    let at-left = at-if6 .before .before in
+    let at-count-part = at-left .before .before in
+    let at-if5 = at-count-part .before in
+    let at-shape-of = at-if5 .before .before .before in
+    let at-if3 = at-shape-of .before .before in
+    let at-if2 = at-if3 .before in
+    let at-if1 = at-if2 .before in
+    count-one _ _ _ _ _ (at-if1 .if1 .left) (at-if2 .if2 .left) (at-if3 .if3 .left) _ (at-shape-of .shape-of .ensures)
+    (at-if5 .if5 .left) _ (at-count-part .count-part .ensures) _ (at-left .left .given .1) (at-if6 .if6 .taken)
 
 count-part-sub-count-part-5 : (t : ℕ) → count-part-lts.Need-sub-count-part-5 (count-part-calls t) (count-part-at t) count-part.Post
-count-part-sub-count-part-5 t c = omega (arith, count-few _ _ _ _ _ (c .before .before .before .before .before .count-part .ensures) (c .before .before .before .left .given .1) .0)
+count-part-sub-count-part-5 t c =
+    let at-left = c .before .before .before in
+    let at-count-part = at-left .before .before in
+    omega (arith, count-few _ _ _ _ _ (at-count-part .count-part .ensures) (at-left .left .given .1) .0)
 
-count-part-count-part-requires-2 : (t : ℕ) → count-part-lts.Need-count-part-requires-2 (count-part-calls t) (count-part-at t) count-part.Post
-count-part-count-part-requires-2 t c κs = (omega (arith, c .before .before .before .before .before .before .before .before .before .before .before .before .before .before .before .pre .0, c .before .before .before .before .before .before .before .before .before .before .before .before .before .if1 .left), omega (arith, c .before .before .before .before .before .before .before .before .before .before .before .before .before .before .before .pre .1))
+count-part-count-part-requires-2 : (t : ℕ) → count-part-lts.Need-count-part-requires-2 (count-part-calls t)
+    (count-part-at t) count-part.Post
+count-part-count-part-requires-2 t c κs =
+    let at-if1 = c .before .before .before .before .before .before .before .before .before .before .before .before .before in
+    let start = at-if1 .before .before in
+    (omega (arith, start .pre .0, at-if1 .if1 .left), omega (arith, start .pre .1))
 
 count-part-returns-8 : (t : ℕ) → count-part-lts.Need-returns-8 (count-part-calls t) (count-part-at t) count-part.Post
-count-part-returns-8 t c = count-right-over _ _ _ _ _ (c .before .before .before .before .before .before .before .before .before .before .before .before .before .before .before .before .if1 .left) (c .before .before .before .before .before .before .before .before .before .before .before .before .before .before .before .if2 .left) (c .before .before .before .before .before .before .before .before .before .before .before .before .before .before .if3 .left) _ (c .before .before .before .before .before .before .before .before .before .before .before .before .shape-of .ensures) (c .before .before .before .before .before .before .before .before .before .if5 .left) _ (c .before .before .before .before .before .before .before .before .count-part .ensures) _ (c .before .before .before .before .before .before .left .given .1) (c .before .before .before .before .if6 .left) _ (c .before .before .count-part2 .ensures) (c .enum-told2 .given .1)
+count-part-returns-8 t c =
+    let at-count-part2 = c .before .before in
+    let at-if6 = at-count-part2 .before .before in
+    let at-left = at-if6 .before .before in
+    let at-count-part = at-left .before .before in
+    let at-if5 = at-count-part .before in
+    let at-shape-of = at-if5 .before .before .before in
+    let at-if3 = at-shape-of .before .before in
+    let at-if2 = at-if3 .before in
+    let at-if1 = at-if2 .before in
+    count-right-over _ _ _ _ _ (at-if1 .if1 .left) (at-if2 .if2 .left) (at-if3 .if3 .left) _ (at-shape-of .shape-of .ensures)
+    (at-if5 .if5 .left) _ (at-count-part .count-part .ensures) _ (at-left .left .given .1) (at-if6 .if6 .left) _
+    (at-count-part2 .count-part2 .ensures) (c .enum-told2 .given .1)
 
 count-part-count-two-requires : (t : ℕ) → count-part-lts.Need-count-two-requires (count-part-calls t) (count-part-at t) count-part.Post
 count-part-count-two-requires t c κs =
-    let l = count-few _ _ _ _ _ (c .before .before .before .before .before .before .before .before .before .count-part .ensures) (c .before .before .before .before .before .before .before .left .given .1) in
-    let r = count-few _ _ _ _ _ (c .before .before .before .count-part2 .ensures) (c .before .right .given .1) in
-    (omega (arith, c .before .before .before .before .before .before .before .before .before .before .before .before .before .before .before .before .before .before .before .pre .1, c .before .before .before .before .before .before .before .before .before .before .before .before .before .before .before .before .before .if1 .left), l .1, r .1)
+    let at-right = c .before in
+    let at-count-part2 = at-right .before .before in
+    let at-left = at-count-part2 .before .before .before .before in
+    let at-count-part = at-left .before .before in
+    let at-if1 = at-count-part .before .before .before .before .before .before .before .before in
+    let start = at-if1 .before .before in
+    let l = count-few _ _ _ _ _ (at-count-part .count-part .ensures) (at-left .left .given .1) in
+    let r = count-few _ _ _ _ _ (at-count-part2 .count-part2 .ensures) (at-right .right .given .1) in
+    (omega (arith, start .pre .1, at-if1 .if1 .left), l .1, r .1)
 
 count-part-returns-9 : (t : ℕ) → count-part-lts.Need-returns-9 (count-part-calls t) (count-part-at t) count-part.Post
-count-part-returns-9 t c = count-both _ _ _ _ _ (c .before .before .before .before .before .before .before .before .before .before .before .before .before .before .before .before .before .before .if1 .left) (c .before .before .before .before .before .before .before .before .before .before .before .before .before .before .before .before .before .if2 .left) (c .before .before .before .before .before .before .before .before .before .before .before .before .before .before .before .before .if3 .left) _ (c .before .before .before .before .before .before .before .before .before .before .before .before .before .before .shape-of .ensures) (c .before .before .before .before .before .before .before .before .before .before .before .if5 .left) _ (c .before .before .before .before .before .before .before .before .before .before .count-part .ensures) _ (c .before .before .before .before .before .before .before .before .left .given .1) (c .before .before .before .before .before .before .if6 .left) _ (c .before .before .before .before .count-part2 .ensures) _ _ (c .before .before .right .given .1) (c .count-two .ensures)
+count-part-returns-9 t c =
+    let at-right = c .before .before in
+    let at-count-part2 = at-right .before .before in
+    let at-if6 = at-count-part2 .before .before in
+    let at-left = at-if6 .before .before in
+    let at-count-part = at-left .before .before in
+    let at-if5 = at-count-part .before in
+    let at-shape-of = at-if5 .before .before .before in
+    let at-if3 = at-shape-of .before .before in
+    let at-if2 = at-if3 .before in
+    let at-if1 = at-if2 .before in
+    count-both _ _ _ _ _ (at-if1 .if1 .left) (at-if2 .if2 .left) (at-if3 .if3 .left) _ (at-shape-of .shape-of .ensures)
+    (at-if5 .if5 .left) _ (at-count-part .count-part .ensures) _ (at-left .left .given .1) (at-if6 .if6 .left) _
+    (at-count-part2 .count-part2 .ensures) _ _ (at-right .right .given .1) (c .count-two .ensures)
 
 abbrev count-use-calls : ℕ → count-use-lts.Claims
 count-use-calls t = (
@@ -125,19 +224,48 @@ count-use-calls t = (
 )
 
 count-use-returns : (t : ℕ) → count-use-lts.Need-returns (count-use-calls t) (count-use-at t) count-use.Post
-count-use-returns t c = use-open _ _ _ _ _ (c .before .before .before .before .before .pre .1 .0) (c .before .before .before .if1 .taken) _ (c .before .before .length-of .ensures .0) _ (c .before .if2 .taken) (c .one-part .ensures)
+count-use-returns t c =
+    let at-if2 = c .before in
+    let at-length-of = at-if2 .before in
+    let at-if1 = at-length-of .before in
+    let start = at-if1 .before .before in
+    use-open _ _ _ _ _ (start .pre .1 .0) (at-if1 .if1 .taken) _ (at-length-of .length-of .ensures .0) _ (at-if2 .if2 .taken)
+    (c .one-part .ensures)
 
 count-use-count-part-requires : (t : ℕ) → count-use-lts.Need-count-part-requires (count-use-calls t) (count-use-at t) count-use.Post
-count-use-count-part-requires t c κs = (omega (arith, c .before .before .before .before .before .pre .0), omega (arith, c .before .before .before .before .before .pre .1 .1))
+count-use-count-part-requires t c κs =
+    let start = c .before .before .before .before .before in
+    (omega (arith, start .pre .0), omega (arith, start .pre .1 .1))
 
 count-use-returns-2 : (t : ℕ) → count-use-lts.Need-returns-2 (count-use-calls t) (count-use-at t) count-use.Post
-count-use-returns-2 t c = use-over _ _ _ _ _ (c .before .before .before .before .before .before .before .before .pre .1 .0) (c .before .before .before .before .before .before .if1 .taken) _ (c .before .before .before .before .before .length-of .ensures .0) (c .before .before .before .before .if2 .left) _ (c .before .before .before .body-start .ensures .0) _ (c .before .before .count-part .ensures) (c .enum-told .given .1)
+count-use-returns-2 t c =
+    let at-count-part = c .before .before in
+    let at-body-start = at-count-part .before in
+    let at-if2 = at-body-start .before in
+    let at-length-of = at-if2 .before in
+    let at-if1 = at-length-of .before in
+    let start = at-if1 .before .before in
+    use-over _ _ _ _ _ (start .pre .1 .0) (at-if1 .if1 .taken) _ (at-length-of .length-of .ensures .0) (at-if2 .if2 .left) _
+    (at-body-start .body-start .ensures .0) _ (at-count-part .count-part .ensures) (c .enum-told .given .1)
 
 count-use-add-t9 : (t : ℕ) → count-use-lts.Need-add-t9 (count-use-calls t) (count-use-at t) count-use.Post
-count-use-add-t9 t c = omega (arith, count-few _ _ _ _ _ (c .before .before .before .before .count-part .ensures) (c .before .before .body .given .1) .0, c .before .before .before .before .before .before .before .before .before .before .pre .1 .1)
+count-use-add-t9 t c =
+    let at-body = c .before .before in
+    let at-count-part = at-body .before .before in
+    let start = at-count-part .before .before .before .before .before .before in
+    omega (arith, count-few _ _ _ _ _ (at-count-part .count-part .ensures) (at-body .body .given .1) .0, start .pre .1 .1)
 
 count-use-returns-3 : (t : ℕ) → count-use-lts.Need-returns-3 (count-use-calls t) (count-use-at t) count-use.Post
-count-use-returns-3 t c = use-fits _ _ _ _ _ (c .before .before .before .before .before .before .before .before .before .before .pre .1 .0) (c .before .before .before .before .before .before .before .before .if1 .taken) _ (c .before .before .before .before .before .before .before .length-of .ensures .0) (c .before .before .before .before .before .before .if2 .left) _ (c .before .before .before .before .before .body-start .ensures .0) _ (c .before .before .before .before .count-part .ensures) _ (c .before .before .body .given .1)
+count-use-returns-3 t c =
+    let at-body = c .before .before in
+    let at-count-part = at-body .before .before in
+    let at-body-start = at-count-part .before in
+    let at-if2 = at-body-start .before in
+    let at-length-of = at-if2 .before in
+    let at-if1 = at-length-of .before in
+    let start = at-if1 .before .before in
+    use-fits _ _ _ _ _ (start .pre .1 .0) (at-if1 .if1 .taken) _ (at-length-of .length-of .ensures .0) (at-if2 .if2 .left) _
+    (at-body-start .body-start .ensures .0) _ (at-count-part .count-part .ensures) _ (at-body .body .given .1)
 
 count-use-returns-4 : (t : ℕ) → count-use-lts.Need-returns-4 (count-use-calls t) (count-use-at t) count-use.Post
 count-use-returns-4 t c = use-none _ _ _ _ _ (c .before .before .before .pre .1 .0) _ (c .before .if1 .left) (c .one-part2 .ensures)

@@ -45,37 +45,106 @@ read-part-returns : (t : ℕ) → read-part-lts.Need-returns (read-part-calls t)
 read-part-returns t c = head-wrong _ _ _ _ _ _ (c .before .before .read-code .ensures) _ (c .enum-told .given .1)
 
 read-part-returns-2 : (t : ℕ) → read-part-lts.Need-returns-2 (read-part-calls t) (read-part-at t) read-part.Post
-read-part-returns-2 t c = too-deep _ _ _ _ _ _ (c .before .before .before .before .read-code .ensures) _ (c .before .before .head .given .1) (c .if1 .taken)
+read-part-returns-2 t c =
+    let at-head = c .before .before in
+    let at-read-code = at-head .before .before in
+    too-deep _ _ _ _ _ _ (at-read-code .read-code .ensures) _ (at-head .head .given .1) (c .if1 .taken)
 
 read-part-shared-slice-read-code : (t : ℕ) → read-part-lts.Need-shared-slice-read-code (read-part-calls t) (read-part-at t) read-part.Post
-read-part-shared-slice-read-code t c = byte-was _ _ _ _ (sym (c .before .before .before .before .before .read-code .ensures) ∙ c .before .before .before .head .given .1) .0
+read-part-shared-slice-read-code t c =
+    let at-head = c .before .before .before in
+    let at-read-code = at-head .before .before in
+    byte-was _ _ _ _ (sym (at-read-code .read-code .ensures) ∙ at-head .head .given .1) .0
 
 read-part-returns-3 : (t : ℕ) → read-part-lts.Need-returns-3 (read-part-calls t) (read-part-at t) read-part.Post
-read-part-returns-3 t c = operands-stop _ _ _ _ _ _ (c .before .before .before .before .before .before .before .before .read-code .ensures) _ (c .before .before .before .before .before .before .head .given .1) (c .before .before .before .before .if1 .left) _ (c .before .before .read-operands .ensures) _ (c .enum-told2 .given .1)
+read-part-returns-3 t c =
+    let at-read-operands = c .before .before in
+    let at-if1 = at-read-operands .before .before in
+    let at-head = at-if1 .before .before in
+    let at-read-code = at-head .before .before in
+    operands-stop _ _ _ _ _ _ (at-read-code .read-code .ensures) _ (at-head .head .given .1) (at-if1 .if1 .left) _
+    (at-read-operands .read-operands .ensures) _ (c .enum-told2 .given .1)
 
 read-part-returns-4 : (t : ℕ) → read-part-lts.Need-returns-4 (read-part-calls t) (read-part-at t) read-part.Post
-read-part-returns-4 t c = leaf-read _ _ _ _ _ _ (c .before .before .before .before .before .before .before .before .before .before .before .read-code .ensures) _ (c .before .before .before .before .before .before .before .before .before .head .given .1) (c .before .before .before .before .before .before .before .if1 .left) _ (c .before .before .before .before .before .read-operands .ensures) _ (c .before .before .before .operands .given .1) _ (c .before .shape-of .ensures) (c .if2 .taken)
+read-part-returns-4 t c =
+    let at-shape-of = c .before in
+    let at-operands = at-shape-of .before .before in
+    let at-read-operands = at-operands .before .before in
+    let at-if1 = at-read-operands .before .before in
+    let at-head = at-if1 .before .before in
+    let at-read-code = at-head .before .before in
+    leaf-read _ _ _ _ _ _ (at-read-code .read-code .ensures) _ (at-head .head .given .1) (at-if1 .if1 .left) _
+    (at-read-operands .read-operands .ensures) _ (at-operands .operands .given .1) _ (at-shape-of .shape-of .ensures) (c .if2 .taken)
 
 read-part-sub-read-part : (t : ℕ) → read-part-lts.Need-sub-read-part (read-part-calls t) (read-part-at t) read-part.Post
 read-part-sub-read-part t c = omega (arith, c .before .before .before .before .before .before .before .before .if1 .left)
 
 read-part-read-part-requires : (t : ℕ) → read-part-lts.Need-read-part-requires (read-part-calls t) (read-part-at t) read-part.Post
-read-part-read-part-requires t c κs = (omega (arith, c .before .before .before .before .before .before .before .before .before .before .before .before .before .before .pre .0, c .before .before .before .before .before .before .before .before .if1 .left), tt)
+read-part-read-part-requires t c κs =
+    let at-if1 = c .before .before .before .before .before .before .before .before in
+    let start = at-if1 .before .before .before .before .before .before in
+    (omega (arith, start .pre .0, at-if1 .if1 .left), tt)
 
 read-part-returns-5 : (t : ℕ) → read-part-lts.Need-returns-5 (read-part-calls t) (read-part-at t) read-part.Post
-read-part-returns-5 t c = left-stop _ _ _ _ _ _ (c .before .before .before .before .before .before .before .before .before .before .before .before .before .before .before .read-code .ensures) _ (c .before .before .before .before .before .before .before .before .before .before .before .before .before .head .given .1) (c .before .before .before .before .before .before .before .before .before .before .before .if1 .left) _ (c .before .before .before .before .before .before .before .before .before .read-operands .ensures) _ (c .before .before .before .before .before .before .before .operands .given .1) _ (c .before .before .before .before .before .shape-of .ensures) (c .before .before .before .before .if2 .left) _ (c .before .before .before .pred-below .ensures) _ (c .before .before .read-part .ensures) _ (c .enum-told3 .given .1)
+read-part-returns-5 t c =
+    let at-read-part = c .before .before in
+    let at-pred-below = at-read-part .before in
+    let at-if2 = at-pred-below .before in
+    let at-shape-of = at-if2 .before in
+    let at-operands = at-shape-of .before .before in
+    let at-read-operands = at-operands .before .before in
+    let at-if1 = at-read-operands .before .before in
+    let at-head = at-if1 .before .before in
+    let at-read-code = at-head .before .before in
+    left-stop _ _ _ _ _ _ (at-read-code .read-code .ensures) _ (at-head .head .given .1) (at-if1 .if1 .left) _
+    (at-read-operands .read-operands .ensures) _ (at-operands .operands .given .1) _ (at-shape-of .shape-of .ensures)
+    (at-if2 .if2 .left) _ (at-pred-below .pred-below .ensures) _ (at-read-part .read-part .ensures) _ (c .enum-told3 .given .1)
 
 read-part-returns-6 : (t : ℕ) → read-part-lts.Need-returns-6 (read-part-calls t) (read-part-at t) read-part.Post
-read-part-returns-6 t c = one-read _ _ _ _ _ _ (c .before .before .before .before .before .before .before .before .before .before .before .before .before .before .before .before .before .read-code .ensures) _ (c .before .before .before .before .before .before .before .before .before .before .before .before .before .before .before .head .given .1) (c .before .before .before .before .before .before .before .before .before .before .before .before .before .if1 .left) _ (c .before .before .before .before .before .before .before .before .before .before .before .read-operands .ensures) _ (c .before .before .before .before .before .before .before .before .before .operands .given .1) _ (c .before .before .before .before .before .before .before .shape-of .ensures) (c .before .before .before .before .before .before .if2 .left) _ (c .before .before .before .before .before .pred-below .ensures) _ (c .before .before .before .before .read-part .ensures) _ (c .before .before .left .given .1) (c .if3 .taken)
+read-part-returns-6 t c =
+    let at-left = c .before .before in
+    let at-read-part = at-left .before .before in
+    let at-pred-below = at-read-part .before in
+    let at-if2 = at-pred-below .before in
+    let at-shape-of = at-if2 .before in
+    let at-operands = at-shape-of .before .before in
+    let at-read-operands = at-operands .before .before in
+    let at-if1 = at-read-operands .before .before in
+    let at-head = at-if1 .before .before in
+    let at-read-code = at-head .before .before in
+    one-read _ _ _ _ _ _ (at-read-code .read-code .ensures) _ (at-head .head .given .1) (at-if1 .if1 .left) _
+    (at-read-operands .read-operands .ensures) _ (at-operands .operands .given .1) _ (at-shape-of .shape-of .ensures)
+    (at-if2 .if2 .left) _ (at-pred-below .pred-below .ensures) _ (at-read-part .read-part .ensures) _ (at-left .left .given .1)
+    (c .if3 .taken)
 
 read-part-sub-read-part-2 : (t : ℕ) → read-part-lts.Need-sub-read-part-2 (read-part-calls t) (read-part-at t) read-part.Post
-read-part-sub-read-part-2 t c = omega (arith, c .before .before .before .before .before .before .before .before .before .before .before .before .before .if1 .left)
+read-part-sub-read-part-2 t c =
+    let at-if1 = c .before .before .before .before .before .before .before .before .before .before .before .before .before in
+    omega (arith, at-if1 .if1 .left)
 
 read-part-read-part-requires-2 : (t : ℕ) → read-part-lts.Need-read-part-requires-2 (read-part-calls t) (read-part-at t) read-part.Post
-read-part-read-part-requires-2 t c κs = (omega (arith, c .before .before .before .before .before .before .before .before .before .before .before .before .before .before .before .before .before .before .before .pre .0, c .before .before .before .before .before .before .before .before .before .before .before .before .before .if1 .left), tt)
+read-part-read-part-requires-2 t c κs =
+    let at-if1 = c .before .before .before .before .before .before .before .before .before .before .before .before .before in
+    let start = at-if1 .before .before .before .before .before .before in
+    (omega (arith, start .pre .0, at-if1 .if1 .left), tt)
 
 read-part-returns-7 : (t : ℕ) → read-part-lts.Need-returns-7 (read-part-calls t) (read-part-at t) read-part.Post
-read-part-returns-7 t c = two-read _ _ _ _ _ _ (c .before .before .before .before .before .before .before .before .before .before .before .before .before .before .before .before .before .before .read-code .ensures) _ (c .before .before .before .before .before .before .before .before .before .before .before .before .before .before .before .before .head .given .1) (c .before .before .before .before .before .before .before .before .before .before .before .before .before .before .if1 .left) _ (c .before .before .before .before .before .before .before .before .before .before .before .before .read-operands .ensures) _ (c .before .before .before .before .before .before .before .before .before .before .operands .given .1) _ (c .before .before .before .before .before .before .before .before .shape-of .ensures) (c .before .before .before .before .before .before .before .if2 .left) _ (c .before .before .before .before .before .before .pred-below .ensures) _ (c .before .before .before .before .before .read-part .ensures) _ (c .before .before .before .left .given .1) (c .before .if3 .left) _ (c .read-part2 .ensures)
+read-part-returns-7 t c =
+    let at-if3 = c .before in
+    let at-left = at-if3 .before .before in
+    let at-read-part = at-left .before .before in
+    let at-pred-below = at-read-part .before in
+    let at-if2 = at-pred-below .before in
+    let at-shape-of = at-if2 .before in
+    let at-operands = at-shape-of .before .before in
+    let at-read-operands = at-operands .before .before in
+    let at-if1 = at-read-operands .before .before in
+    let at-head = at-if1 .before .before in
+    let at-read-code = at-head .before .before in
+    two-read _ _ _ _ _ _ (at-read-code .read-code .ensures) _ (at-head .head .given .1) (at-if1 .if1 .left) _
+    (at-read-operands .read-operands .ensures) _ (at-operands .operands .given .1) _ (at-shape-of .shape-of .ensures)
+    (at-if2 .if2 .left) _ (at-pred-below .pred-below .ensures) _ (at-read-part .read-part .ensures) _ (at-left .left .given .1)
+    (at-if3 .if3 .left) _ (c .read-part2 .ensures)
 
 pub +read-part-spec : {M : Type 1} → statement M
 +read-part-spec = close μ-read-part λ t. read-part-lts.spec (read-part-calls t) (read-part-at t)

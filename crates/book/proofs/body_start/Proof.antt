@@ -1,5 +1,5 @@
 -- `body_start` meets its contract: the loop keeps where the body of entry i starts. Assumes nothing.
-use Prim.Native.Nat.{ℕ, _+_, _*_, _-_, _≤_}
+use Prim.Native.Nat.{_+_, _*_, _-_, _≤_}
 use native.Mathlib.Omega.{arith}
 use mathlib.Core.Path.{_≡_}
 use Rattle.rules.specs.Reading.{bodyStart}

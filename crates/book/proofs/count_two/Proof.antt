@@ -6,10 +6,18 @@ use Rattle.book.proofs.count_two.Statement.{statement}
 use Rattle.book.proofs.count_two.Tie as tie
 
 returns : tie.Need-returns
-returns c = two-count (c .before .before .before .before .args .code) (c .before .before .before .before .args .l) (c .before .before .before .before .args .r) _ _ (omega arith) (beside-deep _ _ _ (c .before .larger .ensures) (c .if1 .taken))
+returns c =
+    let at-larger = c .before in
+    let start = at-larger .before .before .before in
+    two-count (start .args .code) (start .args .l) (start .args .r) _ _ (omega arith)
+    (beside-deep _ _ _ (at-larger .larger .ensures) (c .if1 .taken))
 
 returns-2 : tie.Need-returns-2
-returns-2 c = two-count (c .before .before .before .before .args .code) (c .before .before .before .before .args .l) (c .before .before .before .before .args .r) _ _ (omega arith) (other-deep _ _ _ (c .before .larger .ensures) (c .if1 .left))
+returns-2 c =
+    let at-larger = c .before in
+    let start = at-larger .before .before .before in
+    two-count (start .args .code) (start .args .l) (start .args .r) _ _ (omega arith)
+    (other-deep _ _ _ (at-larger .larger .ensures) (c .if1 .left))
 
 pub count-two-spec : {M : Type 1} → statement M
 count-two-spec =

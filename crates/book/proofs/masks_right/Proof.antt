@@ -9,7 +9,8 @@ use Rattle.book.proofs.masks_right.Statement.{statement}
 use Rattle.book.proofs.masks_right.Tie as tie
 
 abbrev Inv-loop : tie.InvT-loop
-Inv-loop book k m x₀ x = (k ≡ fieldsOf book) × (m ≤ 255) × (x ≤ suc m) × (masksRight book (suc (tablesOf book)) 0 ≡ masksRight book (suc m - x) x)
+Inv-loop book k m x₀ x = (k ≡ fieldsOf book) × (m ≤ 255) × (x ≤ suc m) × (masksRight book (suc (tablesOf book)) 0
+    ≡ masksRight book (suc m - x) x)
 
 abbrev μ-loop : tie.MeasureT-loop
 μ-loop book k m x₀ x = suc m - x
@@ -21,10 +22,23 @@ loop-less : tie.Need-loop-less Inv-loop μ-loop
 loop-less c = omega arith
 
 loop-again : tie.Need-loop-again Inv-loop μ-loop
-loop-again c = (c .before .before .before .loop .inv .0, search needs, omega arith, c .before .before .before .loop .inv .3 ∙ masks-step _ _ _ _ _ (c .before .before .before .loop .inv .0) (omega arith) (c .before .entry-masks .ensures) (c .if1 .taken))
+loop-again c =
+    let at-entry-masks = c .before in
+    let at-loop = at-entry-masks .before .before in (
+      at-loop .loop .inv .0,
+      search needs,
+      omega arith,
+      at-loop .loop .inv .3
+          ∙ masks-step _ _ _ _ _ (at-loop .loop .inv .0) (omega arith) (at-entry-masks .entry-masks .ensures) (c .if1 .taken),
+    )
 
 returns : tie.Need-returns Inv-loop μ-loop
-returns c = sym (c .before .before .before .loop .inv .3 ∙ masks-stop _ _ _ _ _ (c .before .before .before .loop .inv .0) (omega arith) (c .before .entry-masks .ensures) (c .if1 .left))
+returns c =
+    let at-entry-masks = c .before in
+    let at-loop = at-entry-masks .before .before in
+    sym
+    (at-loop .loop .inv .3 ∙ masks-stop _ _ _ _ _ (at-loop .loop .inv .0) (omega arith) (at-entry-masks .entry-masks .ensures)
+    (c .if1 .left))
 
 returns-2 : tie.Need-returns-2 Inv-loop μ-loop
 returns-2 c = sym (c .before .loop .inv .3 ∙ masks-end _ _ _ (omega arith))

@@ -1,9 +1,5 @@
 -- `book::pred_below` meets its contract. Assumes nothing.
-use Prim.Native.Nat.{ℕ}
-use mathlib.Core.Path.{_≡_, refl}
-use mathlib.Core.Bool.{Bool, true, false, _||_}
 use borrow.Author.Tests.{eq-eqb, ne-eqb}
-use lib.Dec.{eqb}
 use Rattle.book.proofs.pred_below.Statement.{statement}
 use Rattle.book.proofs.pred_below.Tie as tie
 

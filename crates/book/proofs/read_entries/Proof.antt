@@ -9,7 +9,8 @@ use Rattle.book.proofs.read_entries.Statement.{statement}
 use Rattle.book.proofs.read_entries.Tie as tie
 
 abbrev Inv-loop : tie.InvT-loop
-Inv-loop book m x₀ x = (m ≡ tablesOf book) × (m ≤ 255) × (x ≤ suc m) × (readEntries book (suc (tablesOf book)) 0 ≡ readEntries book (suc m - x) x)
+Inv-loop book m x₀ x = (m ≡ tablesOf book) × (m ≤ 255) × (x ≤ suc m) × (readEntries book (suc (tablesOf book)) 0
+    ≡ readEntries book (suc m - x) x)
 
 abbrev μ-loop : tie.MeasureT-loop
 μ-loop book m x₀ x = suc m - x
@@ -18,13 +19,25 @@ loop-holds : tie.Need-loop-holds Inv-loop μ-loop
 loop-holds c = (c .byte-at .ensures, search needs, search needs, entries-start _ _ (c .byte-at .ensures))
 
 returns : tie.Need-returns Inv-loop μ-loop
-returns c = sym (c .before .before .before .before .loop .inv .3 ∙ entries-stop _ _ _ _ (omega arith) (c .before .before .read-entry .ensures) _ (c .enum-told .given .1))
+returns c =
+    let at-read-entry = c .before .before in
+    let at-loop = at-read-entry .before .before in
+    sym (at-loop .loop .inv .3 ∙ entries-stop _ _ _ _ (omega arith) (at-read-entry .read-entry .ensures) _ (c .enum-told .given .1))
 
 loop-less : tie.Need-loop-less Inv-loop μ-loop
 loop-less c = omega arith
 
 loop-again : tie.Need-loop-again Inv-loop μ-loop
-loop-again c = (c .before .before .before .before .before .loop .inv .0, search needs, omega arith, c .before .before .before .before .before .loop .inv .3 ∙ entries-step _ _ _ _ (omega arith) (c .before .before .before .read-entry .ensures) _ (c .before .body .given .1))
+loop-again c =
+    let at-body = c .before in
+    let at-read-entry = at-body .before .before in
+    let at-loop = at-read-entry .before .before in (
+      at-loop .loop .inv .0,
+      search needs,
+      omega arith,
+      at-loop .loop .inv .3
+          ∙ entries-step _ _ _ _ (omega arith) (at-read-entry .read-entry .ensures) _ (at-body .body .given .1),
+    )
 
 returns-2 : tie.Need-returns-2 Inv-loop μ-loop
 returns-2 c = sym (c .before .loop .inv .3 ∙ entries-end _ _ _ (omega arith))

@@ -3,13 +3,11 @@ use borrow.Author.Needs.{needs}
 use native.Mathlib.Omega.{arith}
 use native.Mathlib.Nat.{sub-zero}
 use Rattle.rules.specs.declared.Shape.{Shape}
-use Prim.Native.Nat.{ℕ, _+_, _-_, _<_, _≤_}
-use mathlib.Core.Path.{_≡_, refl, sym, _∙_, ap}
-use mathlib.Core.Bool.{Bool, true, false}
-use lib.ListN.{length, getD}
+use Prim.Native.Nat.{ℕ, _-_, _≤_}
+use mathlib.Core.Path.{_≡_, sym, _∙_, ap}
 use Rattle.rules.specs.Codes.{operandsOf}
-use Rattle.rules.specs.Reading.{readOperands, operandFits, byteIf, andThen}
-use Rattle.rules.proofs.ReadingLaws.{byte-short, byte-wrong, byte-next, operands-none, operands-short, operands-wrong, operands-step}
+use Rattle.rules.specs.Reading.{readOperands, operandFits}
+use Rattle.rules.proofs.ReadingLaws.{operands-none, operands-short, operands-wrong, operands-step}
 use Rattle.book.proofs.read_operands.Statement.{statement}
 use Rattle.book.proofs.read_operands.Tie as tie
 
@@ -21,7 +19,12 @@ abbrev μ-loop : tie.MeasureT-loop
 μ-loop s from code k m n i₀ at₀ i at = n - i
 
 loop-holds : tie.Need-loop-holds Inv-loop μ-loop
-loop-holds c = (search needs, ap (λ (n : ℕ). readOperands (c .before .before .args .s .now) (operandFits (c .before .before .args .k) (c .before .before .args .m) (c .before .before .args .code)) n 0 (c .before .before .args .from)) (sym (ap (λ (r : Shape). r .operands) (c .shape-of .ensures)) ∙ sym (sub-zero _)))
+loop-holds c =
+    let start = c .before .before in (
+      search needs,
+      ap (λ (n : ℕ). readOperands (start .args .s .now) (operandFits (start .args .k) (start .args .m) (start .args .code)) n 0
+          (start .args .from)) (sym (ap (λ (r : Shape). r .operands) (c .shape-of .ensures)) ∙ sym (sub-zero _)),
+    )
 
 returns : tie.Need-returns Inv-loop μ-loop
 returns c = sym (c .before .before .loop .inv .1 ∙ operands-short _ _ _ _ _ (c .before .loop-test .taken) (c .if1 .taken))
@@ -33,10 +36,25 @@ loop-less : tie.Need-loop-less Inv-loop μ-loop
 loop-less c = omega arith
 
 loop-again : tie.Need-loop-again Inv-loop μ-loop
-loop-again c = (search needs, c .before .before .before .before .before .loop .inv .1 ∙ operands-step _ _ _ _ _ (c .before .before .before .before .loop-test .taken) (c .before .before .before .if1 .left) (sym (c .before .operand-fits .ensures) ∙ c .if2 .taken))
+loop-again c =
+    let at-operand-fits = c .before in
+    let at-if1 = at-operand-fits .before .before in
+    let at-loop-test = at-if1 .before in
+    let at-loop = at-loop-test .before in (
+      search needs,
+      at-loop .loop .inv .1 ∙ operands-step _ _ _ _ _ (at-loop-test .loop-test .taken) (at-if1 .if1 .left) (sym
+          (at-operand-fits .operand-fits .ensures) ∙ c .if2 .taken),
+    )
 
 returns-2 : tie.Need-returns-2 Inv-loop μ-loop
-returns-2 c = sym (c .before .before .before .before .before .loop .inv .1 ∙ operands-wrong _ _ _ _ _ (c .before .before .before .before .loop-test .taken) (c .before .before .before .if1 .left) (sym (c .before .operand-fits .ensures) ∙ c .if2 .left))
+returns-2 c =
+    let at-operand-fits = c .before in
+    let at-if1 = at-operand-fits .before .before in
+    let at-loop-test = at-if1 .before in
+    let at-loop = at-loop-test .before in
+    sym
+    (at-loop .loop .inv .1 ∙ operands-wrong _ _ _ _ _ (at-loop-test .loop-test .taken) (at-if1 .if1 .left) (sym
+    (at-operand-fits .operand-fits .ensures) ∙ c .if2 .left))
 
 returns-3 : tie.Need-returns-3 Inv-loop μ-loop
 returns-3 c = sym (c .before .loop .inv .1 ∙ operands-none _ _ _ _ _ (c .loop-test .left))

@@ -8,10 +8,16 @@ returns : tie.Need-returns
 returns c = whole-wrong _ _ _ _ (c .before .before .read-part .ensures) _ (c .enum-told .given .1)
 
 returns-2 : tie.Need-returns-2
-returns-2 c = whole-next _ _ _ _ (c .before .before .before .before .read-part .ensures) _ (c .before .before .body .given .1) (c .if1 .taken)
+returns-2 c =
+    let at-body = c .before .before in
+    let at-read-part = at-body .before .before in
+    whole-next _ _ _ _ (at-read-part .read-part .ensures) _ (at-body .body .given .1) (c .if1 .taken)
 
 returns-3 : tie.Need-returns-3
-returns-3 c = whole-rest _ _ _ _ (c .before .before .before .before .read-part .ensures) _ (c .before .before .body .given .1) (c .if1 .left)
+returns-3 c =
+    let at-body = c .before .before in
+    let at-read-part = at-body .before .before in
+    whole-rest _ _ _ _ (at-read-part .read-part .ensures) _ (at-body .body .given .1) (c .if1 .left)
 
 pub read-whole-spec : {M : Type 1} → statement M
 read-whole-spec =

@@ -1,6 +1,5 @@
 -- `book::small_mask` meets its contract. Assumes nothing.
 use borrow.Author.Needs.{needs}
-use Prim.Native.Nat.{ℕ, _^_, _<_}
 use native.Mathlib.Nat.{lt-of-lt-of-le}
 use mathlib.Core.Path.{sym, ap}
 use lib.Dec.{ltb}

@@ -9,22 +9,91 @@ returns : tie.Need-returns
 returns c = form-1 _ _ (c .before .length-right .ensures) (c .if1 .taken)
 
 returns-2 : tie.Need-returns-2
-returns-2 c = form-2 _ _ (c .before .before .before .before .before .length-right .ensures) (c .before .before .before .before .if1 .left) _ _ _ (c .before .before .byte-at2 .ensures) (c .before .before .before .byte-at .ensures) (c .before .counts-right .ensures) (c .if2 .taken)
+returns-2 c =
+    let at-counts-right = c .before in
+    let at-byte-at2 = at-counts-right .before in
+    let at-byte-at = at-byte-at2 .before in
+    let at-if1 = at-byte-at .before in
+    let at-length-right = at-if1 .before in
+    form-2 _ _ (at-length-right .length-right .ensures) (at-if1 .if1 .left) _ _ _ (at-byte-at2 .byte-at2 .ensures)
+    (at-byte-at .byte-at .ensures) (at-counts-right .counts-right .ensures) (c .if2 .taken)
 
 add-body-start : tie.Need-add-body-start
-add-body-start c = omega (arith, few-tables (c .before .before .byte-at2 .result) (c .before .before .before .byte-at .result) _ (c .before .counts-right .ensures) (c .if2 .left))
+add-body-start c =
+    let at-counts-right = c .before in
+    let at-byte-at2 = at-counts-right .before in
+    let at-byte-at = at-byte-at2 .before in
+    omega (
+      arith,
+      few-tables (at-byte-at2 .byte-at2 .result) (at-byte-at .byte-at .result) _ (at-counts-right .counts-right .ensures)
+          (c .if2 .left),
+    )
 
 returns-3 : tie.Need-returns-3
-returns-3 c = form-3 _ _ (c .before .before .before .before .before .before .before .length-right .ensures) (c .before .before .before .before .before .before .if1 .left) _ _ _ (c .before .before .before .before .byte-at2 .ensures) (c .before .before .before .before .before .byte-at .ensures) (c .before .before .before .counts-right .ensures) (c .before .before .if2 .left) _ (c .before .body-start .ensures .0) (c .if3 .taken)
+returns-3 c =
+    let at-body-start = c .before in
+    let at-if2 = at-body-start .before in
+    let at-counts-right = at-if2 .before in
+    let at-byte-at2 = at-counts-right .before in
+    let at-byte-at = at-byte-at2 .before in
+    let at-if1 = at-byte-at .before in
+    let at-length-right = at-if1 .before in
+    form-3 _ _ (at-length-right .length-right .ensures) (at-if1 .if1 .left) _ _ _ (at-byte-at2 .byte-at2 .ensures)
+    (at-byte-at .byte-at .ensures) (at-counts-right .counts-right .ensures) (at-if2 .if2 .left) _
+    (at-body-start .body-start .ensures .0) (c .if3 .taken)
 
 returns-4 : tie.Need-returns-4
-returns-4 c = form-4 _ _ (c .before .before .before .before .before .before .before .before .before .length-right .ensures) (c .before .before .before .before .before .before .before .before .if1 .left) _ _ _ (c .before .before .before .before .before .before .byte-at2 .ensures) (c .before .before .before .before .before .before .before .byte-at .ensures) (c .before .before .before .before .before .counts-right .ensures) (c .before .before .before .before .if2 .left) _ (c .before .before .before .body-start .ensures .0) (c .before .before .if3 .left) _ (c .before .masks-right .ensures) (c .if4 .taken)
+returns-4 c =
+    let at-masks-right = c .before in
+    let at-if3 = at-masks-right .before in
+    let at-body-start = at-if3 .before in
+    let at-if2 = at-body-start .before in
+    let at-counts-right = at-if2 .before in
+    let at-byte-at2 = at-counts-right .before in
+    let at-byte-at = at-byte-at2 .before in
+    let at-if1 = at-byte-at .before in
+    let at-length-right = at-if1 .before in
+    form-4 _ _ (at-length-right .length-right .ensures) (at-if1 .if1 .left) _ _ _ (at-byte-at2 .byte-at2 .ensures)
+    (at-byte-at .byte-at .ensures) (at-counts-right .counts-right .ensures) (at-if2 .if2 .left) _
+    (at-body-start .body-start .ensures .0) (at-if3 .if3 .left) _ (at-masks-right .masks-right .ensures) (c .if4 .taken)
 
 returns-5 : tie.Need-returns-5
-returns-5 c = form-5 _ _ (c .before .before .before .before .before .before .before .before .before .before .before .before .before .length-right .ensures) (c .before .before .before .before .before .before .before .before .before .before .before .before .if1 .left) _ _ _ (c .before .before .before .before .before .before .before .before .before .before .byte-at2 .ensures) (c .before .before .before .before .before .before .before .before .before .before .before .byte-at .ensures) (c .before .before .before .before .before .before .before .before .before .counts-right .ensures) (c .before .before .before .before .before .before .before .before .if2 .left) _ (c .before .before .before .before .before .before .before .body-start .ensures .0) (c .before .before .before .before .before .before .if3 .left) _ (c .before .before .before .before .before .masks-right .ensures) (c .before .before .before .before .if4 .left) _ (c .before .before .before .read-entries .ensures) _ (c .before .bodies .given .1)
+returns-5 c =
+    let at-bodies = c .before in
+    let at-read-entries = at-bodies .before .before in
+    let at-if4 = at-read-entries .before in
+    let at-masks-right = at-if4 .before in
+    let at-if3 = at-masks-right .before in
+    let at-body-start = at-if3 .before in
+    let at-if2 = at-body-start .before in
+    let at-counts-right = at-if2 .before in
+    let at-byte-at2 = at-counts-right .before in
+    let at-byte-at = at-byte-at2 .before in
+    let at-if1 = at-byte-at .before in
+    let at-length-right = at-if1 .before in
+    form-5 _ _ (at-length-right .length-right .ensures) (at-if1 .if1 .left) _ _ _ (at-byte-at2 .byte-at2 .ensures)
+    (at-byte-at .byte-at .ensures) (at-counts-right .counts-right .ensures) (at-if2 .if2 .left) _
+    (at-body-start .body-start .ensures .0) (at-if3 .if3 .left) _ (at-masks-right .masks-right .ensures) (at-if4 .if4 .left) _
+    (at-read-entries .read-entries .ensures) _ (at-bodies .bodies .given .1)
 
 returns-6 : tie.Need-returns-6
-returns-6 c = form-6 _ _ (c .before .before .before .before .before .before .before .before .before .before .before .before .before .length-right .ensures) (c .before .before .before .before .before .before .before .before .before .before .before .before .if1 .left) _ _ _ (c .before .before .before .before .before .before .before .before .before .before .byte-at2 .ensures) (c .before .before .before .before .before .before .before .before .before .before .before .byte-at .ensures) (c .before .before .before .before .before .before .before .before .before .counts-right .ensures) (c .before .before .before .before .before .before .before .before .if2 .left) _ (c .before .before .before .before .before .before .before .body-start .ensures .0) (c .before .before .before .before .before .before .if3 .left) _ (c .before .before .before .before .before .masks-right .ensures) (c .before .before .before .before .if4 .left) _ (c .before .before .before .read-entries .ensures) _ _ (c .before .enum-told .given .1) (c .limits .ensures)
+returns-6 c =
+    let at-enum-told = c .before in
+    let at-read-entries = at-enum-told .before .before in
+    let at-if4 = at-read-entries .before in
+    let at-masks-right = at-if4 .before in
+    let at-if3 = at-masks-right .before in
+    let at-body-start = at-if3 .before in
+    let at-if2 = at-body-start .before in
+    let at-counts-right = at-if2 .before in
+    let at-byte-at2 = at-counts-right .before in
+    let at-byte-at = at-byte-at2 .before in
+    let at-if1 = at-byte-at .before in
+    let at-length-right = at-if1 .before in
+    form-6 _ _ (at-length-right .length-right .ensures) (at-if1 .if1 .left) _ _ _ (at-byte-at2 .byte-at2 .ensures)
+    (at-byte-at .byte-at .ensures) (at-counts-right .counts-right .ensures) (at-if2 .if2 .left) _
+    (at-body-start .body-start .ensures .0) (at-if3 .if3 .left) _ (at-masks-right .masks-right .ensures) (at-if4 .if4 .left) _
+    (at-read-entries .read-entries .ensures) _ _ (at-enum-told .enum-told .given .1) (c .limits .ensures)
 
 pub structure-spec : {M : Type 1} → statement M
 structure-spec =

@@ -1,6 +1,5 @@
 -- `padded` meets its contract.
 use borrow.Author.Needs.{needs}
-use native.Mathlib.Omega.{arith}
 use mathlib.Core.Path.{_≡_, refl}
 use mathlib.Core.List.{_++_}
 use Prim.Native.Nat.{_-_, _≤_}

@@ -1,6 +1,6 @@
 -- `set_at` meets its contract.
 use borrow.Author.Needs.{needs}
-use Rattle.evaluator.proofs.WorkLaws.{set-as}
+use Rattle.evaluator.proofs.WorkLaws.{did-set, set-as}
 use Rattle.evaluator.proofs.set_at.Statement.{statement}
 use Rattle.evaluator.proofs.set_at.Tie as tie
 
@@ -13,6 +13,10 @@ set-at-spec =
     (λ c. search needs)
     (λ c. search needs)
     (λ c κs. search needs)
+    (λ c κs. search needs)
     (λ c. search needs)
     (λ c κs. search needs)
-    (λ c. set-as (c .before .before .byte-at .ensures) (c .before .number-at .ensures) (c .set-of .ensures)))
+    (λ c.
+    let start = c .before .before .before .before .before in
+    let d = did-set (start .args .ps) (start .pre .1) _ _ _ _ (c .before .set-field .ensures) in
+    rw (c .leaf .ensures) (set-as (c .before .before .before .byte-at .ensures) (c .before .before .number-at .ensures) d)))

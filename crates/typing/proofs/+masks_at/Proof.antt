@@ -45,28 +45,67 @@ masks-at-returns-2 : (t : ℕ) → masks-at-lts.Need-returns-2 (masks-at-calls t
 masks-at-returns-2 t c = masks-end _ _ _ _ (c .if2 .taken)
 
 masks-at-add-from-2 : (t : ℕ) → masks-at-lts.Need-add-from-2 (masks-at-calls t) (masks-at-at t) masks-at.Post
-masks-at-add-from-2 t c = omega (arith, operands-few (getD (c .before .before .before .before .before .before .args .s .now) (c .before .before .before .before .before .before .args .at) 0) _ (c .before .shape-of .ensures), c .before .before .before .before .before .before .good .0 .1, c .before .before .before .if2 .left)
+masks-at-add-from-2 t c =
+    let at-shape-of = c .before in
+    let at-if2 = at-shape-of .before .before in
+    let start = at-if2 .before .before .before in
+    omega (
+      arith,
+      operands-few (getD (start .args .s .now) (start .args .at) 0) _ (at-shape-of .shape-of .ensures),
+      start .good .0 .1,
+      at-if2 .if2 .left,
+    )
 
 masks-at-returns-3 : (t : ℕ) → masks-at-lts.Need-returns-3 (masks-at-calls t) (masks-at-at t) masks-at.Post
-masks-at-returns-3 t c = masks-leaf _ _ _ _ (c .before .before .before .before .before .before .if1 .left) (c .before .before .before .before .before .if2 .left) _ (c .before .before .before .shape-of .ensures) _ (c .before .own-masks .ensures) (c .if3 .taken)
+masks-at-returns-3 t c =
+    let at-own-masks = c .before in
+    let at-shape-of = at-own-masks .before .before in
+    let at-if2 = at-shape-of .before .before in
+    let at-if1 = at-if2 .before in
+    masks-leaf _ _ _ _ (at-if1 .if1 .left) (at-if2 .if2 .left) _ (at-shape-of .shape-of .ensures) _ (at-own-masks .own-masks .ensures)
+    (c .if3 .taken)
 
 masks-at-sub-masks-at : (t : ℕ) → masks-at-lts.Need-sub-masks-at (masks-at-calls t) (masks-at-at t) masks-at.Post
 masks-at-sub-masks-at t c = omega (arith, c .before .before .before .before .before .before .if1 .left)
 
 masks-at-masks-at-requires : (t : ℕ) → masks-at-lts.Need-masks-at-requires (masks-at-calls t) (masks-at-at t) masks-at.Post
-masks-at-masks-at-requires t c κs = (omega (arith, c .before .before .before .before .before .before .before .before .pre .0, c .before .before .before .before .before .before .if1 .left), tt)
+masks-at-masks-at-requires t c κs =
+    let at-if1 = c .before .before .before .before .before .before in
+    let start = at-if1 .before .before in
+    (omega (arith, start .pre .0, at-if1 .if1 .left), tt)
 
 masks-at-returns-4 : (t : ℕ) → masks-at-lts.Need-returns-4 (masks-at-calls t) (masks-at-at t) masks-at.Post
-masks-at-returns-4 t c = masks-one _ _ _ _ (c .before .before .before .before .before .before .before .before .if1 .left) (c .before .before .before .before .before .before .before .if2 .left) _ (c .before .before .before .before .before .shape-of .ensures) _ (c .before .before .before .own-masks .ensures) _ (c .before .masks-at .ensures) (c .if4 .taken)
+masks-at-returns-4 t c =
+    let at-masks-at = c .before in
+    let at-own-masks = at-masks-at .before .before in
+    let at-shape-of = at-own-masks .before .before in
+    let at-if2 = at-shape-of .before .before in
+    let at-if1 = at-if2 .before in
+    masks-one _ _ _ _ (at-if1 .if1 .left) (at-if2 .if2 .left) _ (at-shape-of .shape-of .ensures) _ (at-own-masks .own-masks .ensures) _
+    (at-masks-at .masks-at .ensures) (c .if4 .taken)
 
 masks-at-sub-masks-at-2 : (t : ℕ) → masks-at-lts.Need-sub-masks-at-2 (masks-at-calls t) (masks-at-at t) masks-at.Post
 masks-at-sub-masks-at-2 t c = omega (arith, c .before .before .before .before .before .before .before .before .if1 .left)
 
 masks-at-masks-at-requires-2 : (t : ℕ) → masks-at-lts.Need-masks-at-requires-2 (masks-at-calls t) (masks-at-at t) masks-at.Post
-masks-at-masks-at-requires-2 t c κs = (omega (arith, c .before .before .before .before .before .before .before .before .before .before .pre .0, c .before .before .before .before .before .before .before .before .if1 .left), tt)
+masks-at-masks-at-requires-2 t c κs =
+    let at-if1 = c .before .before .before .before .before .before .before .before in
+    let start = at-if1 .before .before in
+    (omega (arith, start .pre .0, at-if1 .if1 .left), tt)
 
 masks-at-returns-5 : (t : ℕ) → masks-at-lts.Need-returns-5 (masks-at-calls t) (masks-at-at t) masks-at.Post
-masks-at-returns-5 t c = masks-two _ _ _ _ (c .before .before .before .before .before .before .before .before .before .before .if1 .left) (c .before .before .before .before .before .before .before .before .before .if2 .left) _ (c .before .before .before .before .before .before .before .shape-of .ensures) _ (c .before .before .before .before .before .own-masks .ensures) _ (c .before .before .before .masks-at .ensures) _ _ (c .before .before .before .before .if3 .left) (c .before .before .if4 .left) (c .before .masks-at2 .ensures) (c .pair-masks .ensures)
+masks-at-returns-5 t c =
+    let at-masks-at2 = c .before in
+    let at-if4 = at-masks-at2 .before in
+    let at-masks-at = at-if4 .before in
+    let at-if3 = at-masks-at .before in
+    let at-own-masks = at-if3 .before in
+    let at-shape-of = at-own-masks .before .before in
+    let at-if2 = at-shape-of .before .before in
+    let at-if1 = at-if2 .before in
+    masks-two _ _ _ _ (at-if1 .if1 .left) (at-if2 .if2 .left) _ (at-shape-of .shape-of .ensures) _ (at-own-masks .own-masks .ensures) _
+    (at-masks-at .masks-at .ensures) _ _ (at-if3 .if3 .left) (at-if4 .if4 .left) (at-masks-at2 .masks-at2 .ensures)
+    (c .pair-masks .ensures)
 
 pub +masks-at-spec : {M : Type 1} → statement M
 +masks-at-spec = close μ-masks-at λ t. masks-at-lts.spec (masks-at-calls t) (masks-at-at t)

@@ -1,6 +1,5 @@
 -- `fit_masks` meets its contract. Assumes nothing.
 use Rattle.typing.proofs.JudgeLaws.{fit-tests, fit-writes}
-use borrow.Author.Needs.{needs}
 use Rattle.typing.proofs.fit_masks.Statement.{statement}
 use Rattle.typing.proofs.fit_masks.Tie as tie
 

@@ -19,13 +19,24 @@ loop-holds : tie.Need-loop-holds Inv-loop μ-loop
 loop-holds c = (search needs, search needs, turn-start _ _ _ (c .byte-at .ensures))
 
 returns : tie.Need-returns Inv-loop μ-loop
-returns c = sym (c .before .before .before .before .loop .inv .2 ∙ turn-stop _ _ _ _ (omega arith) (c .before .before .judge-entry .ensures) _ (c .enum-told .given .1))
+returns c =
+    let at-judge-entry = c .before .before in
+    let at-loop = at-judge-entry .before .before in
+    sym (at-loop .loop .inv .2 ∙ turn-stop _ _ _ _ (omega arith) (at-judge-entry .judge-entry .ensures) _ (c .enum-told .given .1))
 
 loop-less : tie.Need-loop-less Inv-loop μ-loop
 loop-less c = omega arith
 
 loop-again : tie.Need-loop-again Inv-loop μ-loop
-loop-again c = (search needs, omega arith, c .before .before .before .before .before .loop .inv .2 ∙ turn-step _ _ _ _ (omega arith) (c .before .before .before .judge-entry .ensures) _ (c .before .body .given .1))
+loop-again c =
+    let at-body = c .before in
+    let at-judge-entry = at-body .before .before in
+    let at-loop = at-judge-entry .before .before in (
+      search needs,
+      omega arith,
+      at-loop .loop .inv .2 ∙ turn-step _ _ _ _ (omega arith) (at-judge-entry .judge-entry .ensures) _
+          (at-body .body .given .1),
+    )
 
 returns-2 : tie.Need-returns-2 Inv-loop μ-loop
 returns-2 c = sym (c .before .loop .inv .2 ∙ turn-end _ _ _ (omega arith))

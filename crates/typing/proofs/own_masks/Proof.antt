@@ -11,7 +11,11 @@ returns-2 : tie.Need-returns-2
 returns-2 c = own-set _ _ _ _ _ (c .before .before .byte-at .ensures) _ (c .before .match .keys2) (c .bit2 .ensures)
 
 returns-3 : tie.Need-returns-3
-returns-3 c = own-beside _ _ _ _ _ (c .before .before .byte-at .ensures) _ (c .before .match .keys3) (c .byte-at2 .ensures) (c .before .before .byte-at .ok) (c .byte-at2 .ok)
+returns-3 c =
+    let at-match = c .before in
+    let at-byte-at = at-match .before in
+    own-beside _ _ _ _ _ (at-byte-at .byte-at .ensures) _ (at-match .match .keys3) (c .byte-at2 .ensures) (at-byte-at .byte-at .ok)
+    (c .byte-at2 .ok)
 
 returns-4 : tie.Need-returns-4
 returns-4 c = own-use _ _ _ _ _ (c .before .before .byte-at .ensures) _ (c .before .match .keys4) (c .use-masks .ensures)

@@ -5,7 +5,11 @@ use Rattle.typing.proofs.use_masks.Statement.{statement}
 use Rattle.typing.proofs.use_masks.Tie as tie
 
 returns : tie.Need-returns
-returns c = use-declared _ _ _ _ _ (c .reads-of .ok) (c .before .writes-of .ok) (c .reads-of .ensures) (c .before .writes-of .ensures) _ (c .before .before .if1 .taken)
+returns c =
+    let at-writes-of = c .before in
+    let at-if1 = at-writes-of .before in
+    use-declared _ _ _ _ _ (c .reads-of .ok) (at-writes-of .writes-of .ok) (c .reads-of .ensures) (at-writes-of .writes-of .ensures) _
+    (at-if1 .if1 .taken)
 
 returns-2 : tie.Need-returns-2
 returns-2 c = use-id _ _ _ _ (c .if1 .left)
