@@ -1,0 +1,328 @@
+-- The part that stands at a place of a readable book, code by code: its operands, and that the parts below it stand too.
+use Prim.Native.Nat.{ℕ, zero, suc, _+_, _-_, _*_, _≤_, _<_, _^_}
+use native.Mathlib.Omega.{arith}
+use native.Mathlib.Decide.{decLe}
+use mathlib.Core.Path.{_≡_, refl, sym, ap, subst, _∙_}
+use mathlib.Core.Bool.{Bool, true, false, cond, _||_, false≢true}
+use mathlib.Core.List.{List, [], _∷_, _++_, append-assoc}
+use mathlib.Core.Option.{Option, none, some}
+use lib.Dec.{eqb}
+use mathlib.Core.Logic.{_⊎_, inl, inr}
+use lib.ListN.{length, getD, drop, length-drop, length-append, List·getD-eq-default}
+use borrow.Author.Tests.{ne-eqb, eqb-true}
+use Rattle.rules.specs.Parts.{Part, Id, Drop, Test, Set, Not, Sum, Seq, Beside, Table, Open, write, size, namesOpen}
+use Rattle.rules.specs.Books.{mostDepth, Scope, scopeOf, useOf, noUse, Fine}
+use Rattle.rules.specs.Reading.{fieldsOf, tablesOf, lengthAt, readsAt, writesAt, numberAt, bodyStart, below, after, built, partAt, bodyAt, useAt}
+use Rattle.rules.specs.Packets.{Packets}
+use Rattle.rules.specs.States.{Spot, placed, place}
+use Rattle.rules.proofs.Decoding.{reads, drop-head, size-positive}
+use Rattle.machine.specs.Shown.{partOf, Stands, Readable}
+
+-- a fine part may stand one deeper
+fine-deeper : (c : Scope) (n : ℕ → Part) (d : ℕ) (pred : Bool) (p : Part) → Fine c n d pred p → Fine c n (suc d) pred p
+unfolding Fine
+fine-deeper c n zero pred p f = absurd f
+fine-deeper c n (suc d) pred Id f = f
+fine-deeper c n (suc d) pred Drop f = f
+fine-deeper c n (suc d) pred (Test i v) f = f
+fine-deeper c n (suc d) pred (Set i v) f = f
+fine-deeper c n (suc d) pred (Not p) f = fine-deeper c n d true p f
+fine-deeper c n (suc d) pred (Sum p q) f = (fine-deeper c n d pred p (f .0), fine-deeper c n d pred q (f .1))
+fine-deeper c n (suc d) pred (Seq p q) f = (fine-deeper c n d pred p (f .0), fine-deeper c n d pred q (f .1))
+fine-deeper c n (suc d) pred (Beside wp wq p q) f =
+    (f .0, f .1, f .2, fine-deeper c n d pred p (f .3), fine-deeper c n d pred q (f .4))
+fine-deeper c n (suc d) pred (Table x r w start p) f = f
+fine-deeper c n (suc d) pred (Open x r w) f = f
+
+-- what a fine part says of its operands and of the parts below it
+module _ (c : Scope) (n : ℕ → Part) (d : ℕ) (pred : Bool) where
+  fine-test : (f v : ℕ) → Fine c n (suc d) pred (Test f v) → f < c .fields
+  unfolding Fine
+  fine-test f v h = h .0
+
+  fine-set : (f v : ℕ) → Fine c n (suc d) pred (Set f v) → f < c .fields
+  unfolding Fine
+  fine-set f v h = h .1
+
+  fine-not : (p : Part) → Fine c n (suc d) pred (Not p) → Fine c n d true p
+  unfolding Fine
+  fine-not p h = h
+
+  fine-sum : (p q : Part) → Fine c n (suc d) pred (Sum p q) → Fine c n d pred p × Fine c n d pred q
+  unfolding Fine
+  fine-sum p q h = h
+
+  fine-seq : (p q : Part) → Fine c n (suc d) pred (Seq p q) → Fine c n d pred p × Fine c n d pred q
+  unfolding Fine
+  fine-seq p q h = h
+
+  fine-beside : (wp wq : ℕ) (p q : Part) → Fine c n (suc d) pred (Beside wp wq p q) → Fine c n d pred p × Fine c n d pred q
+  unfolding Fine
+  fine-beside wp wq p q h = (h .3, h .4)
+
+  fine-table : (x r w start : ℕ) (p : Part) → Fine c n (suc d) pred (Table x r w start p)
+      → (0 < x) × (x ≤ c .tables) × (n x ≡ Table x r w start p)
+  unfolding Fine
+  fine-table x r w start p h = (h .2, h .3, h .4)
+
+abbrev scope : List ℕ → Bool → Scope
+scope s main = scopeOf (fieldsOf s) (tablesOf s) main
+
+-- a fine part that is written at a place is the part there, and ends its size after it
+pub record Found (s : List ℕ) (at : ℕ) (p : Part) : Type 0 where
+  pub same : partOf s at ≡ p
+  pub stands : Stands s at
+  pub ends : after s mostDepth at ≡ at + size p
+
+pub found : (s : List ℕ) (at : ℕ) (main pred : Bool) (p : Part) (rest : List ℕ) → Fine (scope s main) (useAt s) 31 pred p
+    → drop at s ≡ write p ++ rest → namesOpen p ≡ false → Found s at p
+unfolding partOf
+found s at main pred p rest f e o =
+    let g = fine-deeper (scope s main) (useAt s) 31 pred p f in
+    let r = reads s (scope s main) (useAt s) mostDepth pred at p rest g e in
+    record {
+      same = r .1;
+      stands = record { main = main; pred = pred; rest = rest; fine = rw (r .1) g; written = rw (r .1) e; closed = rw (r .1) o };
+      ends = r .2;
+    }
+
+-- what stands does so inside the book
+pub inside : {s : List ℕ} {at : ℕ} → Stands s at → at < length s
+inside {s} {at} h =
+    omega (arith, size-positive (partOf s at), ap length (h .written), length-append (write (partOf s at)) (h .rest), length-drop at s)
+
+or-false : (a b : Bool) → (a || b) ≡ false → (a ≡ false) × (b ≡ false)
+or-false true b e = absurd (false≢true (sym e))
+or-false false b e = (refl, e)
+
+-- two parts one after the other
+pub record Pair (s : List ℕ) (at : ℕ) (p q : Part) : Type 0 where
+  pub first : Found s at p
+  pub second : Found s (at + size p) q
+
+pair : (s : List ℕ) (at : ℕ) (main pred : Bool) (p q : Part) (rest : List ℕ) → Fine (scope s main) (useAt s) 31 pred p
+    → Fine (scope s main) (useAt s) 31 pred q → drop at s ≡ (write p ++ write q) ++ rest → (namesOpen p || namesOpen q) ≡ false → Pair s at p q
+pair s at main pred p q rest f g e o =
+    let b = or-false (namesOpen p) (namesOpen q) o in
+    let e′ : drop at s ≡ write p ++ (write q ++ rest) = e ∙ append-assoc (write p) (write q) rest in
+    let r = reads s (scope s main) (useAt s) 31 pred at p (write q ++ rest) f e′ in
+    record { first = found s at main pred p (write q ++ rest) f e′ (b .0); second = found s (at + size p) main pred q rest g (r .3) (b .1) }
+
+-- ---- the parts below a part that stands, by what the part is
+
+module _ {s : List ℕ} {at : ℕ} (h : Stands s at) where
+  fine-as : (p : Part) → partOf s at ≡ p → Fine (scope s (h .main)) (useAt s) mostDepth (h .pred) p
+  fine-as p e = rw e at (h .fine)
+
+  written-as : (p : Part) → partOf s at ≡ p → drop at s ≡ write p ++ h .rest
+  written-as p e = rw e at (h .written)
+
+  closed-as : (p : Part) → partOf s at ≡ p → namesOpen p ≡ false
+  closed-as p e = rw e at (h .closed)
+
+  pub below-test : (f v : ℕ) → partOf s at ≡ Test f v → f < fieldsOf s
+  below-test f v e = fine-test (scope s (h .main)) (useAt s) 31 (h .pred) f v (fine-as (Test f v) e)
+
+  pub below-set : (f v : ℕ) → partOf s at ≡ Set f v → f < fieldsOf s
+  below-set f v e = fine-set (scope s (h .main)) (useAt s) 31 (h .pred) f v (fine-as (Set f v) e)
+
+  pub below-not : (p : Part) → partOf s at ≡ Not p → Found s (at + 1) p
+  unfolding write namesOpen
+  below-not p e =
+      found s (at + 1) (h .main) true p (h .rest) (fine-not (scope s (h .main)) (useAt s) 31 (h .pred) p (fine-as (Not p) e))
+      (drop-head s at 4 (write p ++ h .rest) (written-as (Not p) e) .2) (closed-as (Not p) e)
+
+  pub below-sum : (p q : Part) → partOf s at ≡ Sum p q → Pair s (at + 1) p q
+  unfolding write namesOpen
+  below-sum p q e =
+      let f = fine-sum (scope s (h .main)) (useAt s) 31 (h .pred) p q (fine-as (Sum p q) e) in
+      pair s (at + 1) (h .main) (h .pred) p q (h .rest) (f .0) (f .1)
+      (drop-head s at 5 ((write p ++ write q) ++ h .rest) (written-as (Sum p q) e) .2) (closed-as (Sum p q) e)
+
+  pub below-seq : (p q : Part) → partOf s at ≡ Seq p q → Pair s (at + 1) p q
+  unfolding write namesOpen
+  below-seq p q e =
+      let f = fine-seq (scope s (h .main)) (useAt s) 31 (h .pred) p q (fine-as (Seq p q) e) in
+      pair s (at + 1) (h .main) (h .pred) p q (h .rest) (f .0) (f .1)
+      (drop-head s at 6 ((write p ++ write q) ++ h .rest) (written-as (Seq p q) e) .2) (closed-as (Seq p q) e)
+
+  pub below-beside : (wp wq : ℕ) (p q : Part) → partOf s at ≡ Beside wp wq p q → Pair s (at + 3) p q
+  unfolding write namesOpen
+  below-beside wp wq p q e =
+      let f = fine-beside (scope s (h .main)) (useAt s) 31 (h .pred) wp wq p q (fine-as (Beside wp wq p q) e) in
+      let W : List ℕ = (write p ++ write q) ++ h .rest in
+      let a = drop-head s at 7 (wp ∷ wq ∷ W) (written-as (Beside wp wq p q) e) in
+      let b = drop-head s (at + 1) wp (wq ∷ W) (a .2) in
+      let c = drop-head s (at + 1 + 1) wq W (b .2) in
+      let z : at + 1 + 1 + 1 ≡ at + 3 = omega arith in
+      pair s (at + 3) (h .main) (h .pred) p q (h .rest) (f .0) (f .1) (rw z at (c .2)) (closed-as (Beside wp wq p q) e)
+
+  -- a use of a table: its body
+  pub below-table : Readable s → (x r w start : ℕ) (p : Part) → partOf s at ≡ Table x r w start p
+      → (start ≡ bodyStart s x) × (partOf s start ≡ p) × Stands s start
+  unfolding useAt
+  below-table b x r w start p e =
+      let f = fine-table (scope s (h .main)) (useAt s) 31 (h .pred) x r w start p (fine-as (Table x r w start p) e) in
+      go (f .0) (f .1) (bodyAt s x) refl (f .2)
+    where
+      go : 0 < x → x ≤ tablesOf s → (o : Option Part) → bodyAt s x ≡ o → useOf x (readsAt s x) (writesAt s x) (bodyStart s x) o ≡ Table x r w start p
+          → (start ≡ bodyStart s x) × (partOf s start ≡ p) × Stands s start
+      go l u none e q = let z : _≡_ {A = ℕ} 0 1 = cc in absurd (omega arith)
+      go l u (some p′) e q =
+          let a : start ≡ bodyStart s x = cc in
+          let c : p′ ≡ p = cc in
+          let k = b .bodies x p′ l u e in
+          (a, rw a (k .0 ∙ c), rw a (k .1))
+
+-- ---- what the part at a place is, by its code byte
+
+part-suc : (s : List ℕ) (n : ℕ → Part) (d at : ℕ)
+    → partAt s n (suc d) at ≡ built s n at (getD s at 0) (partAt s n d (below s at)) (partAt s n d (after s d (below s at)))
+unfolding partAt
+part-suc s n d at = refl
+
+module _ (s : List ℕ) (at : ℕ) where
+  abbrev first : Part
+  first = partAt s (useAt s) 31 (below s at)
+
+  abbrev second : Part
+  second = partAt s (useAt s) 31 (after s 31 (below s at))
+
+  part-built : (code : ℕ) → getD s at 0 ≡ code → partOf s at ≡ built s (useAt s) at code first second
+  unfolding partOf
+  part-built code e = part-suc s (useAt s) 31 at ∙ ap (λ (c : ℕ). built s (useAt s) at c first second) e
+
+  pub part-drop : getD s at 0 ≡ 1 → partOf s at ≡ Drop
+  unfolding built
+  part-drop e = part-built 1 e
+
+  pub part-test : getD s at 0 ≡ 2 → partOf s at ≡ Test (getD s (at + 1) 0) (numberAt s (at + 2))
+  unfolding built
+  part-test e = part-built 2 e
+
+  pub part-set : getD s at 0 ≡ 3 → partOf s at ≡ Set (getD s (at + 1) 0) (numberAt s (at + 2))
+  unfolding built
+  part-set e = part-built 3 e
+
+  part-not : getD s at 0 ≡ 4 → partOf s at ≡ Not first
+  unfolding built
+  part-not e = part-built 4 e
+
+  part-sum : getD s at 0 ≡ 5 → partOf s at ≡ Sum first second
+  unfolding built
+  part-sum e = part-built 5 e
+
+  part-seq : getD s at 0 ≡ 6 → partOf s at ≡ Seq first second
+  unfolding built
+  part-seq e = part-built 6 e
+
+  part-beside : getD s at 0 ≡ 7 → partOf s at ≡ Beside (getD s (at + 1) 0) (getD s (at + 2) 0) first second
+  unfolding built
+  part-beside e = part-built 7 e
+
+  part-table : getD s at 0 ≡ 8 → partOf s at ≡ useAt s (getD s (at + 1) 0)
+  unfolding built
+  part-table e = part-built 8 e
+
+  -- code 0, and no code
+  pub part-id : (getD s at 0 ≡ 0) ⊎ (8 < getD s at 0) → partOf s at ≡ Id
+  unfolding built
+  part-id (inl e) = part-built 0 e
+  part-id (inr l) = part-built (getD s at 0) refl ∙ rw List·getD-eq-default
+
+  -- any other but id and a sequence rests where it is placed
+  use-rests : (o : Spot) (S : Packets) (x r w start : ℕ) (b : Option Part) → place o (useOf x r w start b) S ≡ placed o (useOf x r w start b) S
+  unfolding place
+  use-rests o S x r w start none = refl
+  use-rests o S x r w start (some p) = refl
+
+  built-rests : (o : Spot) (S : Packets) (l r : Part) (code : ℕ) → code ≤ 8 → (code ≡ 0 → ⊥) → (code ≡ 6 → ⊥)
+      → place o (built s (useAt s) at code l r) S ≡ placed o (built s (useAt s) at code l r) S
+  unfolding built place useAt
+  built-rests o S l r zero h a b = absurd (a refl)
+  built-rests o S l r (suc zero) h a b = refl
+  built-rests o S l r (suc (suc zero)) h a b = refl
+  built-rests o S l r (suc (suc (suc zero))) h a b = refl
+  built-rests o S l r (suc (suc (suc (suc zero)))) h a b = refl
+  built-rests o S l r (suc (suc (suc (suc (suc zero))))) h a b = refl
+  built-rests o S l r (suc (suc (suc (suc (suc (suc zero)))))) h a b = absurd (b refl)
+  built-rests o S l r (suc (suc (suc (suc (suc (suc (suc zero))))))) h a b = refl
+  built-rests o S l r (suc (suc (suc (suc (suc (suc (suc (suc zero)))))))) h a b =
+      let x : ℕ = getD s (at + 1) 0 in use-rests o S x (readsAt s x) (writesAt s x) (bodyStart s x) (bodyAt s x)
+  built-rests o S l r (suc (suc (suc (suc (suc (suc (suc (suc (suc c))))))))) h a b = absurd (omega arith)
+
+  pub part-rests : (o : Spot) (S : Packets) → getD s at 0 ≤ 8 → (getD s at 0 ≡ 0 → ⊥) → (getD s at 0 ≡ 6 → ⊥)
+      → place o (partOf s at) S ≡ placed o (partOf s at) S
+  part-rests o S h a b = rw (part-built (getD s at 0) refl) (built-rests o S first second (getD s at 0) h a b)
+
+-- what stands has one of the nine codes
+pub code-small : {s : List ℕ} {at : ℕ} → Stands s at → getD s at 0 ≤ 8
+unfolding write
+code-small {s} {at} h =
+    elim (decLe (getD s at 0) 8) [
+      | yes l ↦ l
+      | no l ↦
+          let e : partOf s at ≡ Id = part-id s at (inr (omega arith)) in
+          let k = drop-head s at 0 (h .rest) (written-as h Id e) in
+          absurd (omega (arith, k .1))
+    ]
+
+-- ---- the parts below a part that stands, by its code byte: what the code that walks the book needs
+
+module _ {s : List ℕ} {at : ℕ} (h : Stands s at) where
+  pub not-below : getD s at 0 ≡ 4 → (partOf s at ≡ Not (partOf s (at + 1))) × Stands s (at + 1)
+  not-below e =
+      let p = part-not s at e in
+      let f = below-not h (first s at) p in
+      (p ∙ ap Not (sym (f .same)), f .stands)
+
+open-not : (x r w : ℕ) → namesOpen (Open x r w) ≡ false → ⊥
+unfolding namesOpen
+open-not x r w e = false≢true (sym e)
+
+-- two parts, the first at a place and the second where the code finds it
+pub record Two (s : List ℕ) (at : ℕ) : Type 0 where
+  pub left : Stands s at
+  pub right : Stands s (after s mostDepth at)
+  pub ends : after s mostDepth at ≡ at + size (partOf s at)
+
+two-of : (s : List ℕ) (at : ℕ) (p q : Part) → Pair s at p q → (partOf s at ≡ p) × (partOf s (after s mostDepth at) ≡ q) × Two s at
+two-of s at p q h =
+    let e = h .first .ends in
+    (h .first .same, rw e (h .second .same), record { left = h .first .stands; right = rw e (h .second .stands); ends = rw (h .first .same) e })
+
+module _ {s : List ℕ} {at : ℕ} (h : Stands s at) where
+  pub sum-below : getD s at 0 ≡ 5 → (partOf s at ≡ Sum (partOf s (at + 1)) (partOf s (after s mostDepth (at + 1)))) × Two s (at + 1)
+  sum-below e =
+      let p = part-sum s at e in
+      let f = two-of s (at + 1) (first s at) (second s at) (below-sum h (first s at) (second s at) p) in
+      (p ∙ rw (f .0, f .1), f .2)
+
+  pub seq-below : getD s at 0 ≡ 6 → (partOf s at ≡ Seq (partOf s (at + 1)) (partOf s (after s mostDepth (at + 1)))) × Two s (at + 1)
+  seq-below e =
+      let p = part-seq s at e in
+      let f = two-of s (at + 1) (first s at) (second s at) (below-seq h (first s at) (second s at) p) in
+      (p ∙ rw (f .0, f .1), f .2)
+
+  pub beside-below : getD s at 0 ≡ 7
+      → (partOf s at ≡ Beside (getD s (at + 1) 0) (getD s (at + 2) 0) (partOf s (at + 3)) (partOf s (after s mostDepth (at + 3)))) × Two s (at + 3)
+  beside-below e =
+      let p = part-beside s at e in
+      let f = two-of s (at + 3) (first s at) (second s at) (below-beside h (getD s (at + 1) 0) (getD s (at + 2) 0) (first s at) (second s at) p) in
+      (p ∙ rw (f .0, f .1), f .2)
+
+  pub table-below : Readable s → getD s at 0 ≡ 8 → (r w : ℕ) × (partOf s at
+      ≡ Table (getD s (at + 1) 0) r w (bodyStart s (getD s (at + 1) 0)) (partOf s (bodyStart s (getD s (at + 1) 0))))
+      × Stands s (bodyStart s (getD s (at + 1) 0))
+  unfolding useAt
+  table-below b e = go (bodyAt s (getD s (at + 1) 0)) (part-table s at e)
+    where
+      x : ℕ
+      x = getD s (at + 1) 0
+
+      go : (o : Option Part) → partOf s at ≡ useOf x (readsAt s x) (writesAt s x) (bodyStart s x) o
+          → (r w : ℕ) × (partOf s at ≡ Table x r w (bodyStart s x) (partOf s (bodyStart s x))) × Stands s (bodyStart s x)
+      go none e = absurd (open-not x (readsAt s x) (writesAt s x) (closed-as h (Open x (readsAt s x) (writesAt s x)) e))
+      go (some p) e =
+          let k = below-table h b x (readsAt s x) (writesAt s x) (bodyStart s x) p e in
+          (readsAt s x, writesAt s x, e ∙ ap (Table x (readsAt s x) (writesAt s x) (bodyStart s x)) (sym (k .1)), k .2)
