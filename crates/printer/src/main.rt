@@ -1,0 +1,107 @@
+// The run printer: a book, a packet and a schedule from standard input, and the run's answer to standard output.
+mod lines;
+mod text;
+
+use libc::STDIN_FILENO;
+use libc::STDOUT_FILENO;
+use lines::finished;
+use lines::refused;
+use lines::running;
+use rules::Ran;
+use rules::Refusal;
+use rules::Verdict;
+use text::Text;
+ghost use Prim.Native.Nat.{_+_, _*_, _<_, _≤_};
+ghost use mathlib.Core.Path.{_≡_};
+ghost use lib.ListN.{length, take};
+ghost use Rattle.io.specs.Counts.{Counts};
+ghost use Rattle.rules.specs.Reading.{numberAt, fieldsOf};
+ghost use Rattle.printer.specs.Printing.{wordsIn, printed};
+ghost use Rattle.printer.specs.Building.{Holds, Accepts, ranText, text, textOf};
+
+// The number in two bytes, high byte first.
+fn number_at(s: &[u8], at: usize) -> u16
+    requires { ⌜ at + 1 < length (now s) ⌝ }
+    ensures { λ r. ⌜ r ≡ numberAt (now (s .entry)) at ⌝ }
+{
+    (s[at] as u16) * 256 + s[at + 1] as u16
+}
+
+// The packet's words, in the first k places.
+fn packet_of(s: &[u8], k: usize) -> [u16; 8]
+    requires { ⌜ (k ≤ 8) × (2 * k ≤ length (now s)) ⌝ }
+    ensures { λ r. ⌜ take k r ≡ wordsIn k (now (s .entry)) ⌝ }
+{
+    let mut packet = [0u16; 8];
+    let mut i = 0;
+    while i < k {
+        packet[i] = number_at(s, 2 * i);
+        i += 1;
+    }
+    packet
+}
+
+// The answer of the machine, with a result and a working area of its own.
+fn print_machine(book: &[u8], packet: &[u16], schedule: &[u8], k: usize) -> Text
+    requires { ⌜ (k ≡ fieldsOf (now book)) × (k ≤ 8) ⌝ }
+    ensures { λ t. ⌜ Holds t (ranText (now (book .entry)) (now (packet .entry)) (now (schedule .entry))) ⌝ }
+{
+    let mut result = [0u16; 128];
+    let mut work = [0u16; 21760];
+    match machine::run(book, packet, schedule, &mut result, &mut work) {
+        Ran::Finished(f) => finished(f, k, &result),
+        Ran::Running(p) => running(p),
+        Ran::NotRun(r) => refused(r),
+    }
+}
+
+// What follows an accepted book of n bytes and k fields: the packet and the schedule.
+fn print_accepted(input: &[u8], n: usize, k: usize) -> Text
+    requires { ⌜ Accepts (now input) n k ⌝ }
+    ensures { λ t. ⌜ Holds t (printed (now (input .entry))) ⌝ }
+{
+    let from = 2 + n;
+    let rest = &input[from..];
+    let bytes = 2 * k;
+    if rest.len() < bytes {
+        return refused(Refusal::PacketLength);
+    }
+    let schedule = &rest[bytes..];
+    if 8192 < schedule.len() {
+        return refused(Refusal::Input);
+    }
+    let packet = packet_of(rest, k);
+    print_machine(&input[2..from], &packet[..k], schedule, k)
+}
+
+// Exactly what document 01 says is printed for an input.
+pub fn print_run(input: &[u8]) -> Text
+    ensures { λ t. ⌜ (text t ≡ printed (now (input .entry))) × (t ≡ textOf (printed (now (input .entry)))) ⌝ }
+    ensures { λ t. ⌜ Counts (t .len) (t .bytes) ⌝ }
+{
+    if input.len() < 2 {
+        return refused(Refusal::Input);
+    }
+    let n = number_at(input, 0) as usize;
+    if 4096 < n {
+        return refused(Refusal::BookLength);
+    }
+    let from = 2 + n;
+    if input.len() < from {
+        return refused(Refusal::Input);
+    }
+    match typing::accept(&input[2..from]) {
+        Verdict::Refused(r) => refused(r),
+        Verdict::Accepted(z) => print_accepted(input, n, z.fields),
+    }
+}
+
+// Reads as much as decides what is printed: 2 + 4,096 + 16 + 8,193 bytes.
+fn main() {
+    let mut input = [0u8; 12307];
+    let n = io::read_full(STDIN_FILENO, &mut input);
+    let t = print_run(&input[..n]);
+    let bytes = t.bytes;
+    let len = t.len;
+    io::write_all(STDOUT_FILENO, &bytes[..len]);
+}
