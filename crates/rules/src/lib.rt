@@ -2,6 +2,7 @@
 // What the words mean stands under specs/, and what is shown of it under proofs/.
 ghost use mathlib.Core.Path.{_≡_};
 ghost use Rattle.rules.specs.Codes.{shapeAt};
+ghost use Rattle.rules.specs.Answers.{numberOf, placeOf};
 
 // How one packet lies to another.
 pub enum Order {
@@ -147,5 +148,49 @@ pub fn shape_of(code: u8) -> Shape
             operands: 0,
             parts: 0,
         }
+    }
+}
+
+// The number of a refusal, 1 to 14.
+pub fn number_of(r: Refusal) -> usize
+    ensures { λ n. ⌜ n ≡ numberOf r ⌝ }
+{
+    match r {
+        Refusal::BookLength => 1,
+        Refusal::Counts => 2,
+        Refusal::Lengths => 3,
+        Refusal::EntryMasks => 4,
+        Refusal::Form(_) => 5,
+        Refusal::Limits => 6,
+        Refusal::Typing(_) => 7,
+        Refusal::PacketLength => 8,
+        Refusal::Unpopulated => 9,
+        Refusal::TooWide => 10,
+        Refusal::Positions => 11,
+        Refusal::BufferLength => 12,
+        Refusal::Stuck(_) => 13,
+        Refusal::Input => 14,
+    }
+}
+
+// The place of a refusal: 0 but for three.
+pub fn place_of(r: Refusal) -> usize
+    ensures { λ at. ⌜ at ≡ placeOf r ⌝ }
+{
+    match r {
+        Refusal::Form(at) => at,
+        Refusal::Typing(at) => at,
+        Refusal::Stuck(at) => at,
+        Refusal::BookLength => 0,
+        Refusal::Counts => 0,
+        Refusal::Lengths => 0,
+        Refusal::EntryMasks => 0,
+        Refusal::Limits => 0,
+        Refusal::PacketLength => 0,
+        Refusal::Unpopulated => 0,
+        Refusal::TooWide => 0,
+        Refusal::Positions => 0,
+        Refusal::BufferLength => 0,
+        Refusal::Input => 0,
     }
 }
