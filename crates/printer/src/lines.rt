@@ -12,51 +12,8 @@ ghost use Prim.Native.Nat.{_*_, _≤_};
 ghost use mathlib.Core.Path.{_≡_};
 ghost use mathlib.Core.List.{_++_};
 ghost use lib.ListN.{length};
-ghost use Rattle.rules.specs.Answers.{numberOf, placeOf};
 ghost use Rattle.printer.specs.Printing.{blankThen, valuesLine, refusedLine};
 ghost use Rattle.printer.specs.Building.{linesOf, runningLine, finishedLines, Holds, Room, Gains};
-
-fn number_of(r: Refusal) -> usize
-    ensures { λ n. ⌜ n ≡ numberOf r ⌝ }
-{
-    match r {
-        Refusal::BookLength => 1,
-        Refusal::Counts => 2,
-        Refusal::Lengths => 3,
-        Refusal::EntryMasks => 4,
-        Refusal::Form(_) => 5,
-        Refusal::Limits => 6,
-        Refusal::Typing(_) => 7,
-        Refusal::PacketLength => 8,
-        Refusal::Unpopulated => 9,
-        Refusal::TooWide => 10,
-        Refusal::Positions => 11,
-        Refusal::BufferLength => 12,
-        Refusal::Stuck(_) => 13,
-        Refusal::Input => 14,
-    }
-}
-
-fn place_of(r: Refusal) -> usize
-    ensures { λ n. ⌜ n ≡ placeOf r ⌝ }
-{
-    match r {
-        Refusal::Form(at) => at,
-        Refusal::Typing(at) => at,
-        Refusal::Stuck(at) => at,
-        Refusal::BookLength => 0,
-        Refusal::Counts => 0,
-        Refusal::Lengths => 0,
-        Refusal::EntryMasks => 0,
-        Refusal::Limits => 0,
-        Refusal::PacketLength => 0,
-        Refusal::Unpopulated => 0,
-        Refusal::TooWide => 0,
-        Refusal::Positions => 0,
-        Refusal::BufferLength => 0,
-        Refusal::Input => 0,
-    }
-}
 
 // Every answer begins with a word and two numbers.
 fn opening(word: &[u8], a: usize, b: usize) -> Text
@@ -71,8 +28,8 @@ fn opening(word: &[u8], a: usize, b: usize) -> Text
 pub fn refused(r: Refusal) -> Text
     ensures { λ t. ⌜ Holds t (refusedLine r) ⌝ }
 {
-    let number = number_of(r);
-    let place = place_of(r);
+    let number = rules::number_of(r);
+    let place = rules::place_of(r);
     add_byte(opening(b"refused", number, place), b'\n')
 }
 
