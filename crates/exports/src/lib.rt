@@ -104,14 +104,14 @@ fn lay(f: Face, out: &mut [u64]) -> u64
 
 // The verdict on a book: k, m, n and D, or a number and its place.
 #[no_mangle]
-pub extern "C" fn hamstedew_accept(book: &[u8], out: &mut [u64]) -> u64
-    ensures { λ r. ⌜ AcceptFace (now (book .entry)) (now (out .entry)) (now (out .exit)) r ⌝ }
+pub extern "C" fn hamstedew_accept(book: &[u8], sizes: &mut [u64]) -> u64
+    ensures { λ r. ⌜ AcceptFace (now (book .entry)) (now (sizes .entry)) (now (sizes .exit)) r ⌝ }
 {
-    if out.len() < 5 {
+    if sizes.len() < 5 {
         return 255;
     }
     let v = typing::accept(book);
-    lay(verdict_face(v), out)
+    lay(verdict_face(v), sizes)
 }
 
 // A packet through a book: the count, N, n, D and the room, or a number and its place; the packets go to the result.
@@ -120,13 +120,13 @@ pub extern "C" fn hamstedew_evaluate(
     book: &[u8],
     packet: &[u16],
     result: &mut [u16],
-    out: &mut [u64],
+    outcome: &mut [u64],
 ) -> u64
-    ensures { λ r. ⌜ EvaluateFace (now (book .entry)) (now (packet .entry)) (now (result .entry)) (now (result .exit)) (now (out .entry)) (now (out .exit)) r ⌝ }
+    ensures { λ r. ⌜ EvaluateFace (now (book .entry)) (now (packet .entry)) (now (result .entry)) (now (result .exit)) (now (outcome .entry)) (now (outcome .exit)) r ⌝ }
 {
-    if out.len() < 5 {
+    if outcome.len() < 5 {
         return 255;
     }
     let e = evaluator::evaluate(book, packet, result);
-    lay(evaluated_face(e), out)
+    lay(evaluated_face(e), outcome)
 }

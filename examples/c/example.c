@@ -1,0 +1,35 @@
+/* The 17-byte book of document 01: field 0 set to 1 beside field 1 set to 2. Prints the verdict and the packets for (5, 9). */
+#include <inttypes.h>
+#include <stdio.h>
+
+#include "hamstedew.h"
+
+static const uint8_t book[] = {0x02, 0x00, 0x00, 0x0B, 0x00, 0x03, 0x07, 0x01, 0x02,
+                               0x03, 0x00, 0x00, 0x01, 0x03, 0x01, 0x00, 0x02};
+
+static int refused(uint64_t code, const uint64_t *values) {
+    printf("refused %" PRIu64 " %" PRIu64 "\n", code, values[0]);
+    return 1;
+}
+
+int main(void) {
+    uint64_t values[HAMSTEDEW_VALUES];
+    uint64_t code = hamstedew_accept(book, sizeof book, values, HAMSTEDEW_VALUES);
+    if (code != HAMSTEDEW_ANSWERED)
+        return refused(code, values);
+    size_t fields = (size_t)values[0];
+    printf("accepted: k %" PRIu64 ", m %" PRIu64 ", n %" PRIu64 ", D %" PRIu64 "\n", values[0], values[1], values[2], values[3]);
+
+    const uint16_t packet[] = {5, 9};
+    uint16_t result[HAMSTEDEW_RESULT_WORDS(HAMSTEDEW_MOST_FIELDS)];
+    code = hamstedew_evaluate(book, sizeof book, packet, 2, result, sizeof result / sizeof *result, values, HAMSTEDEW_VALUES);
+    if (code != HAMSTEDEW_ANSWERED)
+        return refused(code, values);
+    printf("given: %" PRIu64 ", N %" PRIu64 ", room %" PRIu64 "\n", values[0], values[1], values[4]);
+    for (size_t i = 0; i < values[0]; i++) {
+        for (size_t f = 0; f < fields; f++)
+            printf(f == 0 ? "%u" : " %u", (unsigned)result[i * fields + f]);
+        printf("\n");
+    }
+    return 0;
+}
