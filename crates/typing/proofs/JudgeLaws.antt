@@ -25,7 +25,7 @@ use Rattle.book.specs.Counting.{uses}
 use Rattle.book.proofs.CodeLaws.{by-code, part-suc}
 use Rattle.book.proofs.PlaceLaws.{parts-few}
 use Rattle.typing.specs.declared.Masks.{Masks}
-use Rattle.typing.specs.Judging.{masksAt, rightHere, judge, judgeEntry, fitMasked, fitEntry, inTurn}
+use Rattle.typing.specs.Judging.{masksAt, rightHere, judge, judgeEntry, fitMasked, fitEntry, faultIn, inTurn}
 
 -- ---- the rule of a concurrent part, one test after the other
 
@@ -201,3 +201,7 @@ module _ (f : ℕ → Reading) (n x : ℕ) where
 
     pub turn-step : (a : ℕ) → b ≡ Next a → inTurn f (n - x) x ≡ inTurn f (n - (x + 1)) (x + 1)
     turn-step a q = turn-more h ∙ rw (← eb, q)
+
+-- which of the two faults is looked for
+pub fault-as : (s : List ℕ) (x : ℕ) (b c : Bool) {r : Reading} → b ≡ c → r ≡ faultIn s c x → r ≡ faultIn s b x
+fault-as s x b c e h = h ∙ sym (ap (λ (d : Bool). faultIn s d x) e)

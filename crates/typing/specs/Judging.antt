@@ -1,6 +1,6 @@
 -- The typing as it is judged on the bytes: masks of eight bits, and each fault at the place where the bytes have it.
 use Prim.Native.Nat.{ℕ, zero, suc, _%_}
-use mathlib.Core.Bool.{Bool, true, cond}
+use mathlib.Core.Bool.{Bool, true, cond, false}
 use mathlib.Core.List.{List}
 use lib.Bits.{bitOr}
 use lib.Dec.{ltb, eqb}
@@ -66,6 +66,11 @@ fitEntry s x =
     cond (eqb (lengthAt s x) 0) (Next 0)
     (cond (fitMasked (readsAt s x) (writesAt s x) (masksAt s (uses s (eqb x 0)) mostDepth (bodyStart s x))) (Next 0)
     (Wrong (bodyStart s x)))
+
+-- what is looked for in the body of an entry: a concurrent part that is not right, or that the body does not fit
+abbrev pub faultIn : List ℕ → Bool → ℕ → Reading
+faultIn s false = judgeEntry s
+faultIn s true = fitEntry s
 
 -- n entries from x on, up to the first fault
 unfoldable pub inTurn : (ℕ → Reading) → ℕ → ℕ → Reading

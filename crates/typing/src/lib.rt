@@ -11,7 +11,7 @@ ghost use Rattle.rules.specs.Parts.{Id};
 ghost use Rattle.rules.specs.Typing.{rightMasks, fitMasks};
 ghost use Rattle.rules.specs.Reading.{built, partAt, tablesOf, verdict};
 ghost use Rattle.book.specs.Counting.{uses};
-ghost use Rattle.typing.specs.Judging.{low, masksOf, masksAt, pairMasks, rightHere, judge, judgeEntry, fitEntry, inTurn};
+ghost use Rattle.typing.specs.Judging.{low, masksOf, masksAt, pairMasks, rightHere, judge, judgeEntry, fitEntry, faultIn, inTurn};
 
 // Fields tested, fields that may be written, and the place after the part.
 pub struct Masks {
@@ -241,30 +241,25 @@ fn fit_entry(book: &[u8], x: u8) -> Reading
     }
 }
 
-// The concurrent parts of all bodies, in book order.
-fn judge_entries(book: &[u8]) -> Reading
-    ensures { λ r. ⌜ r ≡ inTurn (judgeEntry (now (book .entry))) (suc (tablesOf (now (book .entry)))) 0 ⌝ }
+// What turns the body of entry x away: a concurrent part that is not right; or, if so asked, that it does not fit.
+fn entry_fault(book: &[u8], x: u8, fits: bool) -> Reading
+    ensures { λ r. ⌜ r ≡ faultIn (now (book .entry)) fits x ⌝ }
 {
-    let m = book::byte_at(book, 1) as usize;
-    let mut x: usize = 0;
-    while x <= m {
-        let body = judge_entry(book, x as u8);
-        let Reading::Next(a) = body else {
-            return body;
-        };
-        x += 1;
+    if fits {
+        fit_entry(book, x)
+    } else {
+        judge_entry(book, x)
     }
-    Reading::Next(0)
 }
 
-// The fit of all bodies, in book order.
-fn fit_entries(book: &[u8]) -> Reading
-    ensures { λ r. ⌜ r ≡ inTurn (fitEntry (now (book .entry))) (suc (tablesOf (now (book .entry)))) 0 ⌝ }
+// The first such body, in book order.
+fn first_fault(book: &[u8], fits: bool) -> Reading
+    ensures { λ r. ⌜ r ≡ inTurn (faultIn (now (book .entry)) fits) (suc (tablesOf (now (book .entry)))) 0 ⌝ }
 {
     let m = book::byte_at(book, 1) as usize;
     let mut x: usize = 0;
     while x <= m {
-        let body = fit_entry(book, x as u8);
+        let body = entry_fault(book, x as u8, fits);
         let Reading::Next(a) = body else {
             return body;
         };
@@ -281,11 +276,11 @@ pub fn accept(book: &[u8]) -> Verdict
     let Verdict::Accepted(sizes) = form else {
         return form;
     };
-    let parts = judge_entries(book);
+    let parts = first_fault(book, false);
     if let Reading::Wrong(at) = parts {
         return Verdict::Refused(Refusal::Typing(at));
     }
-    let bodies = fit_entries(book);
+    let bodies = first_fault(book, true);
     if let Reading::Wrong(at) = bodies {
         return Verdict::Refused(Refusal::Typing(at));
     }
