@@ -21,9 +21,9 @@ use Rattle.rules.specs.declared.Progress.{Progress}
 use Rattle.rules.specs.declared.Refusal.{Refusal}
 use Rattle.rules.specs.declared.Ran.{Ran}
 use Rattle.rules.specs.declared.Ran.the-variants.{Finished, Running, NotRun}
-use Rattle.rules.specs.Answers.{Says, refusalSays, verdictSays, evaluatedSays, ranSays, evaluated, evaluatedResult, overwritten}
+use Rattle.rules.specs.Answers.{Says, refusalSays, verdictSays, evaluatedSays, ranSays, evaluated, evaluatedResult, ran, ranResult, ranArea, overwritten}
 use Rattle.exports.specs.declared.Face.{Face}
-use Rattle.exports.specs.Faces.{faceWords, tooFewWords, codeOf, valuesOf, returned, laid, Shows, FaceOf, EvaluateFace}
+use Rattle.exports.specs.Faces.{faceWords, tooFewWords, codeOf, valuesOf, returned, laid, Shows, FaceOf, EvaluateFace, RunFace}
 
 -- ---- values laid one after the other
 
@@ -66,6 +66,21 @@ module _ {book packet result before : List ℕ} where
       → faceWords ≤ length before → r ≡ f .code → after ≡ overwritten (take (f .count) (f .values)) before
       → result′ ≡ evaluatedResult book packet result → EvaluateFace book packet result result′ before after r
   evaluate-laid s h c w e = record { face = face-laid s h c w; words = rw (le-leb faceWords (length before) h) e }
+
+module _ {book packet schedule result area before : List ℕ} where
+  pub run-short : length before < faceWords → RunFace book packet schedule result result area area before before tooFewWords
+  run-short h =
+      let e : leb faceWords (length before) ≡ false = lt-leb faceWords (length before) h in
+      record { face = face-short h; words = rw e; working = rw e }
+
+  pub run-laid : {f : Face} {after result′ area′ : List ℕ} {r : ℕ}
+      → Shows f (ranSays (ran book packet schedule (length result) (length area)))
+      → faceWords ≤ length before → r ≡ f .code → after ≡ overwritten (take (f .count) (f .values)) before
+      → result′ ≡ ranResult book packet schedule result (length area) → area′ ≡ ranArea book packet schedule (length result) area
+      → RunFace book packet schedule result result′ area area′ before after r
+  run-laid s h c w e g =
+      let t : leb faceWords (length before) ≡ true = le-leb faceWords (length before) h in
+      record { face = face-laid s h c w; words = rw t e; working = rw t g }
 
 -- ---- the faces of the answers, by the case that was met
 

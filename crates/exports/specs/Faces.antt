@@ -1,12 +1,12 @@
 -- An answer as a code and a list of values, and the words that a caller lends for the values.
 use Prim.Native.Nat.{ℕ, _≤_}
 use mathlib.Core.Path.{_≡_}
-use mathlib.Core.Bool.{Bool, cond}
+use mathlib.Core.Bool.{cond}
 use mathlib.Core.List.{List, [], _∷_}
 use lib.Dec.{leb}
 use lib.ListN.{length, take}
 use Rattle.rules.specs.Reading.{verdict}
-use Rattle.rules.specs.Answers.{Says, refusal, accepted, packets, finished, running, overwritten, verdictSays, evaluatedSays, evaluated, evaluatedResult}
+use Rattle.rules.specs.Answers.{Says, refusal, accepted, packets, finished, running, overwritten, verdictSays, evaluatedSays, ranSays, evaluated, evaluatedResult, ran, ranResult, ranArea}
 use Rattle.exports.specs.declared.Face.{Face}
 
 -- the values need five words; a call that lends fewer is answered 255, and nothing is done
@@ -58,3 +58,8 @@ AcceptFace book before after r = FaceOf (verdictSays (verdict book)) before afte
 pub record EvaluateFace (book packet result result′ before after : List ℕ) (r : ℕ) : Type 0 where
   pub face : FaceOf (evaluatedSays (evaluated book packet (length result))) before after r
   pub words : result′ ≡ cond (leb faceWords (length before)) (evaluatedResult book packet result) result
+
+pub record RunFace (book packet schedule result result′ area area′ before after : List ℕ) (r : ℕ) : Type 0 where
+  pub face : FaceOf (ranSays (ran book packet schedule (length result) (length area))) before after r
+  pub words : result′ ≡ cond (leb faceWords (length before)) (ranResult book packet schedule result (length area)) result
+  pub working : area′ ≡ cond (leb faceWords (length before)) (ranArea book packet schedule (length result) area) area

@@ -5,20 +5,16 @@ use rules::Ran;
 use rules::Refusal;
 use rules::Verdict;
 ghost use mathlib.Core.Path.{_≡_};
-ghost use mathlib.Core.Bool.{cond};
-ghost use mathlib.Core.List.{List};
-ghost use Prim.Native.Nat.{ℕ, _≤_, _<_};
-ghost use lib.Dec.{leb};
+ghost use Prim.Native.Nat.{_≤_};
 ghost use lib.ListN.{length, take};
-ghost use Rattle.rules.specs.Reading.{verdict};
-ghost use Rattle.rules.specs.Answers.{numberOf, placeOf, refusalSays, verdictSays, evaluatedSays, evaluated, evaluatedResult, ranSays, ran, ranResult, ranArea, overwritten};
-ghost use Rattle.exports.specs.Faces.{AcceptFace, EvaluateFace, Shows};
+ghost use Rattle.rules.specs.Answers.{refusalSays, verdictSays, evaluatedSays, ranSays, overwritten};
+ghost use Rattle.exports.specs.Faces.{Shows, AcceptFace, EvaluateFace, RunFace};
 
-// A code, and as many values.
-pub struct Face {
-    pub code: u64,
-    pub values: [u64; 5],
-    pub count: usize,
+// A code, and as many of the values as count.
+struct Face {
+    code: u64,
+    values: [u64; 5],
+    count: usize,
 }
 
 fn refusal_face(r: Refusal) -> Face
@@ -129,4 +125,25 @@ pub extern "C" fn hamstedew_evaluate(
     }
     let e = evaluator::evaluate(book, packet, result);
     lay(evaluated_face(e), outcome)
+}
+
+// A packet through a book under a schedule: steps and count; steps, live and ready positions of a short one; or a number and its
+// place. The packets go to the result, and the working area is zero afterwards.
+#[no_mangle]
+pub extern "C" fn hamstedew_run(
+    book: &[u8],
+    packet: &[u16],
+    schedule: &[u8],
+    result: &mut [u16],
+    area: &mut [u16],
+    progress: &mut [u64],
+) -> u64
+    ensures { λ r. ⌜ RunFace (now (book .entry)) (now (packet .entry)) (now (schedule .entry))
+        (now (result .entry)) (now (result .exit)) (now (area .entry)) (now (area .exit)) (now (progress .entry)) (now (progress .exit)) r ⌝ }
+{
+    if progress.len() < 5 {
+        return 255;
+    }
+    let a = machine::run(book, packet, schedule, result, area);
+    lay(ran_face(a), progress)
 }
