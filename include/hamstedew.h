@@ -1,4 +1,4 @@
-/* Policy books for C programs: accept and evaluate, as document 01 defines them.
+/* Policy books for C programs: accept, evaluate and run, as document 01 defines them.
  *
  * Link target/staticlib/libexports.a, which `rt staticlib exports` writes; it needs only memcpy and memset of the C library.
  * Every answer below is proved of the compiled functions' source: crates/exports/src has the contracts.
@@ -10,10 +10,11 @@
  *
  *   code                      values
  *   HAMSTEDEW_ANSWERED        as told at each function
+ *   HAMSTEDEW_RUNNING         of run only: the schedule ended before the policy did
  *   1 to 13                   the number that turns the call away (below), and one value: its place, 0 but for 5, 7 and 13
  *   HAMSTEDEW_TOO_FEW_WORDS   none: fewer than HAMSTEDEW_VALUES words are lent for the values, and nothing is done
  *
- * A call that is turned away changes no word of the result.
+ * A call that is turned away changes no word of the result or of the working area.
  */
 #ifndef HAMSTEDEW_H
 #define HAMSTEDEW_H
@@ -34,6 +35,9 @@ extern "C" {
 #define HAMSTEDEW_MOST_TABLES 15
 #define HAMSTEDEW_MOST_PACKETS 16
 
+/* Words of a run's working area. */
+#define HAMSTEDEW_AREA_WORDS 21760
+
 /* Words that a result needs for a book with k fields. */
 #define HAMSTEDEW_RESULT_WORDS(k) (HAMSTEDEW_MOST_PACKETS * (k))
 
@@ -49,7 +53,10 @@ enum {
     HAMSTEDEW_PACKET_LENGTH = 8,  /* a packet not of k words */
     HAMSTEDEW_UNPOPULATED = 9,    /* the main policy names an unpopulated table */
     HAMSTEDEW_TOO_WIDE = 10,      /* some part is handed or gives more than 16 packets */
-    HAMSTEDEW_BUFFER_LENGTH = 12, /* a result of fewer than 16 k words */
+    HAMSTEDEW_POSITIONS = 11,     /* a room of more than 160 positions (run only) */
+    HAMSTEDEW_BUFFER_LENGTH = 12, /* a result of fewer than 16 k words; for a run, a working area of fewer than 21,760 */
+    HAMSTEDEW_STUCK = 13,         /* a step at a field that its position lacks; no accepted book has one (run only) */
+    HAMSTEDEW_RUNNING = 100,
     HAMSTEDEW_TOO_FEW_WORDS = 255
 };
 
@@ -64,6 +71,16 @@ uint64_t hamstedew_accept(const uint8_t *book, size_t book_length, uint64_t *siz
  * Turned away by 1 to 7, then 8, 12, 9 and 10. */
 uint64_t hamstedew_evaluate(const uint8_t *book, size_t book_length, const uint16_t *packet, size_t packet_length,
                             uint16_t *result, size_t result_length, uint64_t *outcome, size_t outcome_length);
+
+/* One packet of k words through a book, step by step: byte b of the schedule picks ready position b mod r, of r from left to right.
+ * No byte is read after the finish.
+ * Values when answered: the steps made, and the count of packets, which stand in the result as after hamstedew_evaluate.
+ * Values when running: the steps made, the live positions and the ready positions; the result is kept.
+ * After either, the first HAMSTEDEW_AREA_WORDS words of the working area are zero and its other words kept.
+ * Turned away by 1 to 7, then 8, 12, 9, 10, 11 and 13. */
+uint64_t hamstedew_run(const uint8_t *book, size_t book_length, const uint16_t *packet, size_t packet_length,
+                       const uint8_t *schedule, size_t schedule_length, uint16_t *result, size_t result_length,
+                       uint16_t *area, size_t area_length, uint64_t *progress, size_t progress_length);
 
 #ifdef __cplusplus
 }

@@ -3,7 +3,7 @@
 
 mod timing;
 
-use second::bench::{cases, Case};
+use second::bench::{cases, run_cases, Case};
 use std::hint::black_box;
 use timing::{compare, Times};
 
@@ -11,25 +11,30 @@ const ROUNDS: usize = 2001;
 
 fn main() {
     let rounds = std::env::args().nth(1).and_then(|text| text.parse().ok()).unwrap_or(ROUNDS);
-    println!("| {:34} | {:>9} | {:>9} | {:>5} | {:>12} |", "row", "ours ns", "Rust ns", "ratio", "spread");
-    println!("|{0:-<36}|{0:->11}|{0:->11}|{0:->7}|{0:->14}|", "");
+    println!(
+        "| {:34} | {:>9} | {:>9} | {:>5} | {:>14} |",
+        "row", "ours ns", "Rust ns", "ratio", "half of rounds"
+    );
+    println!("|{0:-<36}|{0:->11}|{0:->11}|{0:->7}|{0:->16}|", "");
     for case in cases() {
-        line("accept", &case, accept(&case, rounds));
+        line(format!("accept, {}", case.name), 1.0, accept(&case, rounds));
     }
     for case in cases() {
-        line("evaluate", &case, evaluate(&case, rounds));
+        line(format!("evaluate, {}", case.name), 1.0, evaluate(&case, rounds));
+    }
+    for case in run_cases() {
+        line(
+            format!("run, {}, {} steps, a step", case.name, case.steps),
+            case.steps as f64,
+            run(&case, rounds),
+        );
     }
 }
 
-fn line(call: &str, case: &Case, times: Times) {
-    let name = format!("{call}, {}", case.name);
-    let spread = format!("{:.2} to {:.2}", times.low, times.high);
-    println!(
-        "| {name:34} | {:9.0} | {:9.0} | {:5.2} | {spread:>12} |",
-        times.ours,
-        times.theirs,
-        times.ratio()
-    );
+fn line(name: String, calls: f64, times: Times) {
+    let half = format!("{:.2} to {:.2}", times.low, times.high);
+    let (ours, theirs) = (times.ours / calls, times.theirs / calls);
+    println!("| {name:34} | {ours:9.0} | {theirs:9.0} | {:5.2} | {half:>14} |", times.ratio);
 }
 
 fn accept(case: &Case, rounds: usize) -> Times {
@@ -53,6 +58,23 @@ fn evaluate(case: &Case, rounds: usize) -> Times {
         },
         || {
             black_box(second::evaluate(black_box(&case.book), black_box(&case.packet), &mut theirs));
+        },
+    );
+    assert_eq!(ours, theirs, "{}: both give the same packets", case.name);
+    times
+}
+
+fn run(case: &Case, rounds: usize) -> Times {
+    let Case { book, packet, schedule, .. } = case;
+    let (mut ours, mut theirs) = ([0; 128], [0; 128]);
+    let (mut our_area, mut their_area) = ([0; hamstedew::AREA_WORDS], [0; hamstedew::AREA_WORDS]);
+    let times = compare(
+        rounds,
+        || {
+            let _ = black_box(hamstedew::run(black_box(book), packet, schedule, &mut ours, &mut our_area));
+        },
+        || {
+            black_box(second::run(black_box(book), packet, schedule, &mut theirs, &mut their_area));
         },
     );
     assert_eq!(ours, theirs, "{}: both give the same packets", case.name);

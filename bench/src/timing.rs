@@ -2,18 +2,14 @@
 
 use std::time::Instant;
 
-/// Nanoseconds a call, the least of all rounds, and the ratios of single rounds between which half of them lie.
+/// Nanoseconds a call, the least of all rounds; and of the ratios of single rounds the middle one, and the two between
+/// which half of them lie.
 pub struct Times {
     pub ours: f64,
     pub theirs: f64,
+    pub ratio: f64,
     pub low: f64,
     pub high: f64,
-}
-
-impl Times {
-    pub fn ratio(&self) -> f64 {
-        self.ours / self.theirs
-    }
 }
 
 /// A batch takes about this long.
@@ -30,6 +26,7 @@ pub fn compare(rounds: usize, mut ours: impl FnMut(), mut theirs: impl FnMut()) 
     Times {
         ours: least(|t| t.0),
         theirs: least(|t| t.1),
+        ratio: ratios[rounds / 2],
         low: ratios[rounds / 4],
         high: ratios[rounds - 1 - rounds / 4],
     }

@@ -3,7 +3,7 @@
 
 mod faces;
 
-use faces::{hamstedew_accept, hamstedew_evaluate, Values, ANSWERED};
+use faces::{hamstedew_accept, hamstedew_evaluate, hamstedew_run, Values, ANSWERED, RUNNING};
 
 /// Why a call is turned away: document 01's number, and a place, 0 but for 5, 7 and 13.
 #[derive(Clone, Copy, Debug, PartialEq, Eq)]
@@ -30,6 +30,16 @@ pub struct Outcome {
     pub deep: usize,
     pub room: u64,
 }
+
+/// A run that finished, or one whose schedule ended first.
+#[derive(Clone, Copy, Debug, PartialEq, Eq)]
+pub enum Ran {
+    Finished { steps: usize, count: usize },
+    Running { steps: usize, live: usize, ready: usize },
+}
+
+/// Words of a run's working area.
+pub const AREA_WORDS: usize = 21_760;
 
 /// The verdict on a book.
 pub fn accept(book: &[u8]) -> Result<Sizes, Refusal> {
@@ -61,6 +71,42 @@ pub fn evaluate(book: &[u8], packet: &[u16], result: &mut [u16]) -> Result<Outco
     answered(code, &values)?;
     let [count, steps, parts, deep, room] = values;
     Ok(Outcome { count: count as usize, steps, parts: parts as usize, deep: deep as usize, room })
+}
+
+/// One packet through a book under a schedule: byte b picks ready position b mod r. Finished, the packets stand in
+/// `result` as `evaluate` puts them; running, it is kept. After either, the first [`AREA_WORDS`] words of `area` are
+/// zero. All other words, and all words after a refusal, are kept.
+pub fn run(
+    book: &[u8],
+    packet: &[u16],
+    schedule: &[u8],
+    result: &mut [u16],
+    area: &mut [u16],
+) -> Result<Ran, Refusal> {
+    let mut values = Values::default();
+    // Safety: each pointer stands beside the length of its slice, the slices are apart, and nothing is kept.
+    let code = unsafe {
+        hamstedew_run(
+            book.as_ptr(),
+            book.len(),
+            packet.as_ptr(),
+            packet.len(),
+            schedule.as_ptr(),
+            schedule.len(),
+            result.as_mut_ptr(),
+            result.len(),
+            area.as_mut_ptr(),
+            area.len(),
+            values.as_mut_ptr(),
+            values.len(),
+        )
+    };
+    let [steps, second, third, ..] = values.map(|value| value as usize);
+    if code == RUNNING {
+        return Ok(Ran::Running { steps, live: second, ready: third });
+    }
+    answered(code, &values)?;
+    Ok(Ran::Finished { steps, count: second })
 }
 
 fn answered(code: u64, values: &Values) -> Result<(), Refusal> {

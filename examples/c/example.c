@@ -1,4 +1,4 @@
-/* The 17-byte book of document 01: field 0 set to 1 beside field 1 set to 2. Prints the verdict and the packets for (5, 9). */
+/* The 17-byte book of document 01: field 0 set to 1 beside field 1 set to 2. Prints the verdict, the packets for (5, 9), and a run. */
 #include <inttypes.h>
 #include <stdio.h>
 
@@ -30,6 +30,19 @@ int main(void) {
         for (size_t f = 0; f < fields; f++)
             printf(f == 0 ? "%u" : " %u", (unsigned)result[i * fields + f]);
         printf("\n");
+    }
+
+    static const uint8_t schedule[] = {0, 0, 0, 0};
+    static uint16_t area[HAMSTEDEW_AREA_WORDS];
+    for (size_t length = 2; length <= 4; length += 2) {
+        code = hamstedew_run(book, sizeof book, packet, 2, schedule, length, result, sizeof result / sizeof *result, area,
+                             HAMSTEDEW_AREA_WORDS, values, HAMSTEDEW_VALUES);
+        if (code == HAMSTEDEW_RUNNING)
+            printf("running: steps %" PRIu64 ", live %" PRIu64 ", ready %" PRIu64 "\n", values[0], values[1], values[2]);
+        else if (code == HAMSTEDEW_ANSWERED)
+            printf("finished: steps %" PRIu64 ", packets %" PRIu64 "\n", values[0], values[1]);
+        else
+            return refused(code, values);
     }
     return 0;
 }
