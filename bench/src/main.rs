@@ -17,23 +17,22 @@ fn main() {
     );
     println!("|{0:-<36}|{0:->11}|{0:->11}|{0:->7}|{0:->16}|", "");
     for case in cases() {
-        line(format!("accept, {}", case.name), 1.0, accept(&case, rounds));
+        line(format!("accept, {}", case.name), 1, accept(&case, rounds));
     }
     for case in cases() {
-        line(format!("evaluate, {}", case.name), 1.0, evaluate(&case, rounds));
+        line(format!("evaluate, {}", case.name), 1, evaluate(&case, rounds));
     }
     for case in run_cases() {
-        line(
-            format!("run, {}, {} steps, a step", case.name, case.steps),
-            case.steps as f64,
-            run(&case, rounds),
-        );
+        let whole = run(&case, &case.schedule, rounds);
+        let steps_alone = whole.without(&run(&case, &[], rounds));
+        line(format!("run, {}, a step", case.name), case.steps, whole);
+        line(format!("run, {}, the steps alone", case.name), case.steps, steps_alone);
     }
 }
 
-fn line(name: String, calls: f64, times: Times) {
-    let half = format!("{:.2} to {:.2}", times.low, times.high);
-    let (ours, theirs) = (times.ours / calls, times.theirs / calls);
+fn line(name: String, shares: u64, times: Times) {
+    let half = times.half.map_or(String::new(), |(low, high)| format!("{low:.2} to {high:.2}"));
+    let (ours, theirs) = (times.ours / shares as f64, times.theirs / shares as f64);
     println!("| {name:34} | {ours:9.0} | {theirs:9.0} | {:5.2} | {half:>14} |", times.ratio);
 }
 
@@ -64,8 +63,8 @@ fn evaluate(case: &Case, rounds: usize) -> Times {
     times
 }
 
-fn run(case: &Case, rounds: usize) -> Times {
-    let Case { book, packet, schedule, .. } = case;
+fn run(case: &Case, schedule: &[u8], rounds: usize) -> Times {
+    let Case { book, packet, .. } = case;
     let (mut ours, mut theirs) = ([0; 128], [0; 128]);
     let (mut our_area, mut their_area) = ([0; hamstedew::AREA_WORDS], [0; hamstedew::AREA_WORDS]);
     let times = compare(

@@ -2,14 +2,22 @@
 
 use std::time::Instant;
 
-/// Nanoseconds a call, the least of all rounds; and of the ratios of single rounds the middle one, and the two between
-/// which half of them lie.
+/// Nanoseconds a call, the least of all rounds, and their ratio.
 pub struct Times {
     pub ours: f64,
     pub theirs: f64,
+    /// The middle one of the rounds' ratios.
     pub ratio: f64,
-    pub low: f64,
-    pub high: f64,
+    /// Half of the rounds' ratios lie between these two.
+    pub half: Option<(f64, f64)>,
+}
+
+impl Times {
+    /// What is left of a call without the part that was timed by itself.
+    pub fn without(&self, part: &Times) -> Times {
+        let (ours, theirs) = (self.ours - part.ours, self.theirs - part.theirs);
+        Times { ours, theirs, ratio: ours / theirs, half: None }
+    }
 }
 
 /// A batch takes about this long.
@@ -27,8 +35,7 @@ pub fn compare(rounds: usize, mut ours: impl FnMut(), mut theirs: impl FnMut()) 
         ours: least(|t| t.0),
         theirs: least(|t| t.1),
         ratio: ratios[rounds / 2],
-        low: ratios[rounds / 4],
-        high: ratios[rounds - 1 - rounds / 4],
+        half: Some((ratios[rounds / 4], ratios[rounds - 1 - rounds / 4])),
     }
 }
 
