@@ -21,7 +21,8 @@ use Rattle.rules.specs.declared.Progress.{Progress}
 use Rattle.rules.specs.declared.Refusal.{Refusal}
 use Rattle.rules.specs.declared.Ran.{Ran}
 use Rattle.rules.specs.declared.Ran.the-variants.{Finished, Running, NotRun}
-use Rattle.rules.specs.Answers.{Says, refusalSays, verdictSays, evaluatedSays, ranSays, evaluated, evaluatedResult, ran, ranResult, ranArea, overwritten}
+use Rattle.rules.specs.Answers.{Says, refusalSays, verdictSays, evaluatedSays, ranSays}
+use Rattle.rules.specs.Answers.{overwritten, evaluated, evaluatedResult, ran, ranResult, ranArea}
 use Rattle.exports.specs.declared.Face.{Face}
 use Rattle.exports.specs.Faces.{faceWords, tooFewWords, codeOf, valuesOf, returned, laid, Shows, FaceOf, EvaluateFace, RunFace}
 

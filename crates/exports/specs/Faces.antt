@@ -6,7 +6,8 @@ use mathlib.Core.List.{List, [], _∷_}
 use lib.Dec.{leb}
 use lib.ListN.{length, take}
 use Rattle.rules.specs.Reading.{verdict}
-use Rattle.rules.specs.Answers.{Says, refusal, accepted, packets, finished, running, overwritten, verdictSays, evaluatedSays, ranSays, evaluated, evaluatedResult, ran, ranResult, ranArea}
+use Rattle.rules.specs.Answers.{Says, refusal, accepted, packets, finished, running, verdictSays, evaluatedSays, ranSays}
+use Rattle.rules.specs.Answers.{overwritten, evaluated, evaluatedResult, ran, ranResult, ranArea}
 use Rattle.exports.specs.declared.Face.{Face}
 
 -- the values need five words; a call that lends fewer is answered 255, and nothing is done

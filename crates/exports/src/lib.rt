@@ -118,7 +118,8 @@ pub extern "C" fn hamstedew_evaluate(
     result: &mut [u16],
     outcome: &mut [u64],
 ) -> u64
-    ensures { λ r. ⌜ EvaluateFace (now (book .entry)) (now (packet .entry)) (now (result .entry)) (now (result .exit)) (now (outcome .entry)) (now (outcome .exit)) r ⌝ }
+    ensures { λ r. ⌜ EvaluateFace (now (book .entry)) (now (packet .entry))
+        (now (result .entry)) (now (result .exit)) (now (outcome .entry)) (now (outcome .exit)) r ⌝ }
 {
     if outcome.len() < 5 {
         return 255;
