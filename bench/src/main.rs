@@ -3,7 +3,7 @@
 
 mod timing;
 
-use second::bench::{cases, run_cases, Case};
+use second::bench::{cases, hostile_books, run_cases, Case, Hostile};
 use std::hint::black_box;
 use timing::{compare, Times};
 
@@ -17,7 +17,10 @@ fn main() {
     );
     println!("|{0:-<36}|{0:->11}|{0:->11}|{0:->7}|{0:->16}|", "");
     for case in cases() {
-        line(format!("accept, {}", case.name), 1, accept(&case, rounds));
+        line(format!("accept, {}", case.name), 1, accept(&case.book, rounds));
+    }
+    for Hostile { name, book } in hostile_books() {
+        line(format!("accept, {name}"), 1, accept(&book, rounds));
     }
     for case in cases() {
         line(format!("evaluate, {}", case.name), 1, evaluate(&case, rounds));
@@ -36,14 +39,14 @@ fn line(name: String, shares: u64, times: Times) {
     println!("| {name:34} | {ours:9.0} | {theirs:9.0} | {:5.2} | {half:>14} |", times.ratio);
 }
 
-fn accept(case: &Case, rounds: usize) -> Times {
+fn accept(book: &[u8], rounds: usize) -> Times {
     compare(
         rounds,
         || {
-            let _ = black_box(hamstedew::accept(black_box(&case.book)));
+            let _ = black_box(hamstedew::accept(black_box(book)));
         },
         || {
-            black_box(second::accept(black_box(&case.book)));
+            black_box(second::accept(black_box(book)));
         },
     )
 }

@@ -52,6 +52,49 @@ pub fn run_cases() -> Vec<Case> {
     ]
 }
 
+/// A book made to keep the reader busy.
+pub struct Hostile {
+    pub name: &'static str,
+    pub book: Vec<u8>,
+}
+
+/// Books for accept alone: the longest ways to an answer, accepted or refused.
+pub fn hostile_books() -> Vec<Hostile> {
+    let nest = |name, leaf| Hostile { name, book: nests_in_unused_tables(leaf) };
+    vec![
+        nest("nests in unused tables", Policy::Id),
+        nest("nests, the last not right", set(0, 1)),
+        Hostile { name: "uses over the limit", book: uses_over_the_limit() },
+        Hostile { name: "unknown code at the end", book: unknown_code_at_the_end() },
+    ]
+}
+
+/// Two unused tables, each 22 concurrent parts one in the other above a full tree of 9 levels; `leaf` ends the last.
+fn nests_in_unused_tables(leaf: Policy) -> Vec<u8> {
+    let apart = |p, q| beside(0, 0, p, q);
+    let nest = |last: Policy| {
+        let mut leaves = vec![Policy::Id; 462];
+        leaves.push(last);
+        (0..22).fold(balanced(apart, &leaves), |below, _| apart(Policy::Id, below))
+    };
+    let entries = [&Policy::Id, &nest(Policy::Id), &nest(leaf)].map(|body| Entry::new(0, 1, body));
+    write_book(1, &entries)
+}
+
+/// A main policy of 512 uses of a table of 1,500 parts: the count stops at the limit.
+fn uses_over_the_limit() -> Vec<u8> {
+    let main = balanced(sequence, &vec![Policy::Table(1); 512]);
+    let table = balanced(sequence, &vec![Policy::Id; 750]);
+    write_book(1, &[Entry::new(0, 1, &main), Entry::new(0, 1, &table)])
+}
+
+/// Nearly 4,096 bytes of sequences, the last code unknown.
+fn unknown_code_at_the_end() -> Vec<u8> {
+    let mut book = book_of(1, &balanced(sequence, &vec![Policy::Id; 2045]));
+    *book.last_mut().expect("a book has bytes") = 9;
+    book
+}
+
 /// An access rule, a rewriting table and an audit table beside it.
 fn small_book() -> Vec<u8> {
     let allowed = sequence(Policy::Test(0, 5), not(Policy::Test(1, 7)));
@@ -130,9 +173,9 @@ fn time_of(call: &mut impl FnMut(), calls: u64) -> f64 {
     start.elapsed().as_nanos() as f64
 }
 
-pub fn time_accept(case: &Case) -> f64 {
+pub fn time_accept(book: &[u8]) -> f64 {
     nanoseconds_a_call(|| {
-        black_box(accept(black_box(&case.book)));
+        black_box(accept(black_box(book)));
     })
 }
 
@@ -158,8 +201,11 @@ pub fn rows() -> Vec<Row> {
     let mut rows = Vec::new();
     let mut add = |name: String, nanoseconds: f64, unit| rows.push(Row { name, nanoseconds, unit });
     for case in cases() {
-        add(format!("accept, {}", case.name), time_accept(&case), "ns a call");
+        add(format!("accept, {}", case.name), time_accept(&case.book), "ns a call");
         add(format!("evaluate, {}", case.name), time_evaluate(&case), "ns a call");
+    }
+    for Hostile { name, book } in hostile_books() {
+        add(format!("accept, {name}"), time_accept(&book), "ns a call");
     }
     for case in run_cases() {
         let whole = time_run(&case, case.schedule.len());
