@@ -99,7 +99,15 @@ module _ (s : List ℕ) (x at n k m : ℕ) (r : Reading) (ea : at ≡ bodyStart 
       go zero h z = absurd (h refl)
       go (suc x) h z = rw (ne-eqb (lengthAt s (suc x)) 0 z)
 
--- the bodies in order, one turn at a time: what is left from entry x on
+-- whatever goes through entries in turn, up to the first refusal: what is left from entry x on
+pub turn-more : (f : ℕ → Reading) (g : ℕ → ℕ → Reading) → ((n x : ℕ) → g (suc n) x ≡ andThen (f x) (λ a. g n (suc x)))
+    → (n x : ℕ) → x < n → g (n - x) x ≡ andThen (f x) (λ a. g (n - (x + 1)) (x + 1))
+turn-more f g more n x h =
+    let e : n - x ≡ suc (n - (x + 1)) = omega arith in
+    let s : suc x ≡ x + 1 = omega arith in
+    rw (e, ← s) (more (n - suc x) x)
+
+-- the bodies in order
 pub entries-start : (s : List ℕ) (m : ℕ) → m ≡ tablesOf s → readEntries s (suc (tablesOf s)) 0 ≡ readEntries s (suc m - 0) 0
 entries-start s m e = rw (e, sub-zero)
 
@@ -110,10 +118,7 @@ module _ (s : List ℕ) (n x : ℕ) where
 
   entries-more : x < n → readEntries s (n - x) x ≡ andThen (readEntry s x) (λ a. readEntries s (n - (x + 1)) (x + 1))
   unfolding readEntries
-  entries-more h =
-      let e : n - x ≡ suc (n - (x + 1)) = omega arith in
-      let f : suc x ≡ x + 1 = omega arith in
-      rw (e, ← f)
+  entries-more = turn-more (readEntry s) (readEntries s) (λ n x. refl) n x
 
   module _ (b : Reading) (h : x < n) (eb : b ≡ readEntry s x) where
     pub entries-stop : (r : ℕ) → b ≡ Wrong r → readEntries s (n - x) x ≡ b

@@ -10,7 +10,7 @@ use Rattle.rules.specs.Books.{entries, bytesOf, masksFit}
 use Rattle.rules.specs.Reading.{byteIf, stands, operandFits, readOperands, readPart, readBody, bodyStart, readEntry, readEntries, masksRight, after, built, partAt, bodyAt, useAt, mainOf, tablesFrom, policyOf, wrongBody, misfit, wrongsIn, misfitsIn, typingFaults, sizesOf, verdict}
 use Rattle.rules.specs.Working.{each, out, steps, room, own, widest, width}
 use Rattle.rules.specs.States.{join, place, enter, finish, leave, next, live, move, run, counted, made, used, lacking, stuckSteps, stuckIn}
-use Rattle.rules.specs.Answers.{numberOf, placeOf, start, ran}
+use Rattle.rules.specs.Answers.{start, ran}
 use Rattle.printer.specs.Printing.{decimalIn, furtherValues, valuesLine, packetLines, refusedLine, ranLines, ranIn, endsWith, printed}
 
 -- 00 11, the 17-byte book, the packet 00 05 00 09
@@ -29,6 +29,6 @@ unfolding has apart within less
     after built partAt bodyAt useAt mainOf tablesFrom policyOf wrongBody misfit wrongsIn misfitsIn typingFaults sizesOf verdict
     each out steps room own widest width
     join place enter finish leave next live move run counted made used lacking stuckSteps stuckIn
-    numberOf placeOf start ran
+    start ran
     decimalIn furtherValues valuesLine packetLines refusedLine ranLines ranIn endsWith printed
 examples = (refl, refl)

@@ -13,7 +13,7 @@ use Rattle.rules.specs.Books.{entries, bytesOf, masksFit}
 use Rattle.rules.specs.Reading.{byteIf, stands, operandFits, readOperands, readPart, readBody, bodyStart, readEntry, readEntries, masksRight, after, built, partAt, bodyAt, useAt, mainOf, tablesFrom, policyOf, wrongBody, misfit, wrongsIn, misfitsIn, typingFaults, sizesOf, verdict}
 use Rattle.rules.specs.Working.{each, out}
 use Rattle.rules.specs.States.{place, enter, finish, leave, next, move, used, lacking, stuckSteps, stuckIn}
-use Rattle.rules.specs.Answers.{Says, refusal, numberOf, placeOf, refusalSays, verdictSays}
+use Rattle.rules.specs.Answers.{Says, refusal, refusalSays, verdictSays}
 
 -- masks and sides of a concurrent part
 pub record Sides : Type 0 where
@@ -76,7 +76,7 @@ unfolding shown lacking-one sides conditions
     write parts deep tested written rightMasks fitMasks wrongs entries bytesOf masksFit
     byteIf stands operandFits readOperands readPart readBody bodyStart readEntry readEntries masksRight
     after built partAt bodyAt useAt mainOf tablesFrom policyOf wrongBody misfit wrongsIn misfitsIn typingFaults sizesOf verdict
-    each out place enter finish leave next move used lacking stuckSteps stuckIn numberOf placeOf refusalSays verdictSays
+    each out place enter finish leave next move used lacking stuckSteps stuckIn refusalSays verdictSays
 each-needed = refl
 
 -- ---- the trap: "Pairing results across different packets, as the four-packet answer above"

@@ -48,7 +48,6 @@ pub one-verdict : (book : List ℕ) → (v : Verdict) × ((w : Verdict) → verd
 one-verdict book = (verdict book, λ w e. sym e)
 
 pub numbered : (r : Refusal) → (1 ≤ numberOf r) × (numberOf r ≤ 14)
-unfolding numberOf
 numbered BookLength = (lit≤ tt, lit≤ tt)
 numbered Counts = (lit≤ tt, lit≤ tt)
 numbered Lengths = (lit≤ tt, lit≤ tt)

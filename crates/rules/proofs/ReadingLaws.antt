@@ -138,6 +138,10 @@ byte-was s ok at a = go (ltb at (length s)) refl (ok (getD s at 0)) refl
     go true e false f q = let z : _≡_ {A = ℕ} 0 1 = cc in absurd (omega arith)
     go false e y f q = let z : _≡_ {A = ℕ} 0 1 = cc in absurd (omega arith)
 
+pub then-next : (x : Reading) → andThen x (λ a. Next a) ≡ x
+then-next (Next a) = refl
+then-next (Wrong a) = refl
+
 -- parts one after the other
 module _ (f : ℕ → Reading) where
   pub times-none : (n b : ℕ) → n ≡ 0 → readTimes n f b ≡ Next b
@@ -149,10 +153,6 @@ module _ (f : ℕ → Reading) where
 
   pub times-one : (n b c : ℕ) → n ≡ 1 → f b ≡ Next c → readTimes n f b ≡ Next c
   times-one n b c h e = rw (h, e)
-
-  then-next : (x : Reading) → andThen x (λ a. Next a) ≡ x
-  then-next (Next a) = refl
-  then-next (Wrong a) = refl
 
   pub times-two : (n b c : ℕ) → n ≤ 2 → (n ≡ 0 → ⊥) → (n ≡ 1 → ⊥) → f b ≡ Next c → readTimes n f b ≡ f c
   times-two n b c l h0 h1 e = let q : n ≡ 2 = omega arith in rw (q, e) (then-next (f c))

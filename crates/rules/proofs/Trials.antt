@@ -12,7 +12,7 @@ use Rattle.rules.specs.Books.{entries, bytesOf, masksFit}
 use Rattle.rules.specs.Reading.{byteIf, stands, operandFits, readOperands, readPart, readBody, bodyStart, readEntry, readEntries, masksRight, after, built, partAt, bodyAt, useAt, mainOf, tablesFrom, policyOf, wrongBody, misfit, wrongsIn, misfitsIn, typingFaults, sizesOf, verdict}
 use Rattle.rules.specs.Working.{each, out, steps, room, own, widest, width}
 use Rattle.rules.specs.States.{join, place, enter, finish, leave, next, live, move, run, counted, made, used, lacking, stuckSteps, stuckIn}
-use Rattle.rules.specs.Answers.{Says, refusal, packets, finished, running, numberOf, placeOf, refusalSays, evaluatedSays, ranSays, given, outcome, evaluated, overwritten, evaluatedResult, start, ran, areaWords}
+use Rattle.rules.specs.Answers.{Says, refusal, packets, finished, running, refusalSays, evaluatedSays, ranSays, given, outcome, evaluated, overwritten, evaluatedResult, start, ran, areaWords}
 
 -- "k = 2, ... main masks R empty and W all fields", no tables: the book with this main body
 abbrev pub bookOf : List ℕ → List ℕ
@@ -95,5 +95,5 @@ unfolding trials trial answered expected buffer
     after built partAt bodyAt useAt mainOf tablesFrom policyOf wrongBody misfit wrongsIn misfitsIn typingFaults sizesOf verdict
     each out steps room own widest width
     join place enter finish leave next live move run counted made used lacking stuckSteps stuckIn
-    numberOf placeOf refusalSays evaluatedSays ranSays given outcome evaluated overwritten evaluatedResult start ran
+    refusalSays evaluatedSays ranSays given outcome evaluated overwritten evaluatedResult start ran
 starred = refl

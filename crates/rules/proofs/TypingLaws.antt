@@ -1,16 +1,13 @@
 -- The typing tests taken apart into what they say of fields, and the test with the sides exchanged.
 use mathlib.Core.Path.{_≡_, refl, ap, _∙_}
-use mathlib.Core.Bool.{Bool, true, false, _&&_, and-comm, false≢true}
+use mathlib.Core.Bool.{Bool, true, false, _&&_, and-comm}
 use Prim.Native.Nat.{ℕ}
 use lib.Bits.{bitOr}
 use Rattle.rules.specs.Masks.{apart, within}
 use Rattle.rules.specs.Parts.{Part}
 use Rattle.rules.specs.Typing.{tested, written, rightMasks, rightBeside, fitMasks, fits}
+use Rattle.rules.proofs.Decoding.{and-was}
 use Rattle.rules.proofs.MaskLaws.{Off, Sub, apart-off, apart-off-r, apart-turned, within-sub}
-
-pub and-both : (x y : Bool) → (x && y) ≡ true → (x ≡ true) × (y ≡ true)
-and-both true y e = (refl, e)
-and-both false y e = absurd (false≢true e)
 
 -- a concurrent part is right: what each side writes, and that neither side sees the other's fields
 pub record RightParts (wp wq tp mp tq mq : ℕ) : Type 0 where
@@ -24,10 +21,10 @@ pub record RightParts (wp wq tp mp tq mq : ℕ) : Type 0 where
 pub right-parts : (wp wq tp mp tq mq : ℕ) → rightMasks wp wq tp mp tq mq ≡ true → RightParts wp wq tp mp tq mq
 unfolding rightMasks
 right-parts wp wq tp mp tq mq e =
-    let a = and-both (within mp wp) _ e in
-    let b = and-both (within mq wq) _ (a .1) in
-    let c = and-both (apart wp wq) _ (b .1) in
-    let d = and-both (apart tp wq) _ (c .1) in record {
+    let a = and-was (within mp wp) _ e in
+    let b = and-was (within mq wq) _ (a .1) in
+    let c = and-was (apart wp wq) _ (b .1) in
+    let d = and-was (apart tp wq) _ (c .1) in record {
       writes-p = within-sub mp wp (a .0);
       writes-q = within-sub mq wq (b .0);
       apart-p = apart-off wp wq (c .0);
@@ -44,7 +41,7 @@ pub record FitParts (r w t m : ℕ) : Type 0 where
 pub fit-parts : (r w t m : ℕ) → fitMasks r w t m ≡ true → FitParts r w t m
 unfolding fitMasks
 fit-parts r w t m e =
-    let a = and-both (within t (bitOr r w)) _ e in
+    let a = and-was (within t (bitOr r w)) _ e in
     record { reads = within-sub t (bitOr r w) (a .0); writes = within-sub m w (a .1) }
 
 -- the same, of parts

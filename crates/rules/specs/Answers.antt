@@ -23,7 +23,7 @@ use Rattle.rules.specs.States.{Spot, Tree, place, finish, live, ready, r
 
 -- ---- the table of numbers
 
-unfoldable pub numberOf : Refusal → ℕ
+abbrev pub numberOf : Refusal → ℕ
 numberOf BookLength = 1
 numberOf Counts = 2
 numberOf Lengths = 3
@@ -40,7 +40,7 @@ numberOf (Stuck at) = 13
 numberOf Input = 14
 
 -- "a place, 0 but for three"
-unfoldable pub placeOf : Refusal → ℕ
+abbrev pub placeOf : Refusal → ℕ
 placeOf BookLength = 0
 placeOf Counts = 0
 placeOf Lengths = 0
