@@ -4,28 +4,33 @@ use native.Mathlib.Omega.{arith}
 use native.Mathlib.Nat.{sub-zero}
 use native.Mathlib.Numerals.{sub-one}
 use mathlib.Core.Path.{_≡_, refl, sym, ap, _∙_}
-use mathlib.Core.Bool.{Bool, true, false, not, cond}
+use mathlib.Core.Bool.{Bool, true, false, cond}
 use mathlib.Core.List.{List}
 use mathlib.Core.Option.{Option, none, some}
 use lib.Bits.{bitAnd, bitOr}
-use lib.Dec.{eqb}
+use lib.Dec.{ltb, eqb}
 use lib.ListN.{length, getD}
-use borrow.Author.Tests.{lt-ltb, le-ltb, eq-eqb, ne-eqb, not-true, not-false}
+use borrow.Author.Tests.{lt-ltb, le-ltb, eq-eqb, ne-eqb}
 use Rattle.rules.specs.Codes.{shapeAt, partsOf}
 use Rattle.rules.specs.declared.Shape.{Shape}
 use Rattle.rules.specs.declared.Reading.{Reading}
 use Rattle.rules.specs.declared.Reading.the-variants.{Next, Wrong}
 use Rattle.rules.specs.Masks.{apart, within}
-use Rattle.rules.specs.Parts.{Part}
+use Rattle.rules.specs.Parts.{Part, Id}
 use Rattle.rules.specs.Typing.{rightMasks, fitMasks}
 use Rattle.rules.specs.Books.{mostDepth, useOf}
-use Rattle.rules.specs.Reading.{andThen, readTimes, below, after, built, partAt, lengthAt, readsAt, writesAt, bodyStart, bodyAt, useAt}
-use Rattle.rules.proofs.ReadingLaws.{times-none, times-wrong, times-one, times-two}
+use Rattle.rules.specs.Reading.{andThen, readTimes, skip, below, after, built, partAt}
+use Rattle.rules.specs.Reading.{tablesOf, lengthAt, readsAt, writesAt, bodyStart, bodyAt, useAt}
+use Rattle.rules.proofs.ReadingLaws.{then-next}
 use Rattle.book.specs.Counting.{uses}
 use Rattle.book.proofs.CodeLaws.{by-code, part-suc}
 use Rattle.book.proofs.PlaceLaws.{parts-few}
+use Rattle.book.proofs.ReadLaws.{turn-more}
 use Rattle.typing.specs.declared.Masks.{Masks}
-use Rattle.typing.specs.Judging.{masksAt, rightHere, judge, judgeEntry, fitMasked, fitEntry, faultIn, inTurn}
+use Rattle.typing.specs.declared.Judged.{Judged}
+use Rattle.typing.specs.Judging.{masksOf, masksAt, rightHere, judge, rightSides, Found, firstOf, BothFound, BesideFound}
+use Rattle.typing.specs.Judging.{judgeEntry, fitIf, fitMasked, fitEntry, inTurn}
+use Rattle.typing.proofs.WalkLaws.{masks-zero, masks-end, masks-leaf, masks-one, masks-both, masks-beside}
 
 -- ---- the rule of a concurrent part, one test after the other
 
@@ -54,14 +59,19 @@ module _ (wp wq tp mp tq mq : ℕ) where
         q-tests d = rw (eq-eqb (bitOr mp wp) wp a, eq-eqb (bitOr mq wq) wq b, eq-eqb (bitAnd wp wq) 0 c, eq-eqb (bitAnd tp wq) 0 d)
 
 -- a body that fits, one test after the other
-module _ (r w t m : ℕ) where
-  pub fit-tests : (bitOr t (bitOr r w) ≡ bitOr r w → ⊥) → false ≡ fitMasks r w t m
+module _ (r w t m at : ℕ) where
+  pub fit-tests : (bitOr t (bitOr r w) ≡ bitOr r w → ⊥) → Wrong at ≡ fitIf (fitMasks r w t m) at
   unfolding fitMasks within
   fit-tests h = rw (ne-eqb (bitOr t (bitOr r w)) (bitOr r w) h)
 
-  pub fit-writes : bitOr t (bitOr r w) ≡ bitOr r w → eqb (bitOr m w) w ≡ fitMasks r w t m
-  unfolding fitMasks within
-  fit-writes h = rw (eq-eqb (bitOr t (bitOr r w)) (bitOr r w) h)
+  module _ (e : bitOr t (bitOr r w) ≡ bitOr r w) where
+    pub fit-writes : (bitOr m w ≡ w → ⊥) → Wrong at ≡ fitIf (fitMasks r w t m) at
+    unfolding fitMasks within
+    fit-writes h = rw (eq-eqb (bitOr t (bitOr r w)) (bitOr r w) e, ne-eqb (bitOr m w) w h)
+
+    pub fit-right : bitOr m w ≡ w → Next 0 ≡ fitIf (fitMasks r w t m) at
+    unfolding fitMasks within
+    fit-right h = rw (eq-eqb (bitOr t (bitOr r w)) (bitOr r w) e, eq-eqb (bitOr m w) w h)
 
 -- ---- the part at a place, itself
 
@@ -75,7 +85,7 @@ uses-right s true x = go (bodyAt s x)
     go (some p) = refl
 uses-right s false x = refl
 
-module _ (s : List ℕ) (main : Bool) (d at : ℕ) (h : 0 < d) where
+module _ (s : List ℕ) (main : Bool) (d at : ℕ) (hd : d ≡ 0 → ⊥) where
   other-code : (l r : Part) (c : ℕ) → (c ≡ 7 → ⊥) → rightHere (built s (uses s main) at c l r) ≡ true
   unfolding built rightHere
   other-code l r =
@@ -86,30 +96,60 @@ module _ (s : List ℕ) (main : Bool) (d at : ℕ) (h : 0 < d) where
   here : partAt s (uses s main) d at
       ≡ built s (uses s main) at (getD s at 0) (partAt s (uses s main) (d - 1) (below s at))
       (partAt s (uses s main) (d - 1) (after s (d - 1) (below s at)))
-  here = part-suc s (uses s main) d at (λ e. omega arith)
+  here = part-suc s (uses s main) d at hd
 
-  pub here-other : (getD s at 0 ≡ 7 → ⊥) → true ≡ rightHere (partAt s (uses s main) d at)
+  here-other : (getD s at 0 ≡ 7 → ⊥) → rightHere (partAt s (uses s main) d at) ≡ true
   here-other n =
-      sym (ap rightHere here
+      ap rightHere here
       ∙ other-code (partAt s (uses s main) (d - 1) (below s at)) (partAt s (uses s main) (d - 1) (after s (d - 1) (below s at)))
-      (getD s at 0) n)
+      (getD s at 0) n
 
-  pub here-beside : (a b : ℕ) (l r : Masks) → getD s at 0 ≡ 7 → a ≡ getD s (at + 1) 0 → b ≡ getD s (at + 2) 0
-      → l ≡ masksAt s (uses s main) (d - 1) (at + 3) → r ≡ masksAt s (uses s main) (d - 1) (l .next)
-      → (t : Bool) → t ≡ rightMasks a b (l .tests) (l .writes) (r .tests) (r .writes) → t ≡ rightHere (partAt s (uses s main) d at)
+  here-beside : (wp wq : ℕ) (l r : Masks) → getD s at 0 ≡ 7 → wp ≡ getD s (at + 1) 0 → wq ≡ getD s (at + 2) 0
+      → l ≡ masksAt s (uses s main) (d - 1) (below s at) → r ≡ masksAt s (uses s main) (d - 1) (l .next)
+      → rightHere (partAt s (uses s main) d at) ≡ rightSides wp wq l r
   unfolding built rightHere masksAt
-  here-beside a b l r e ea eb el er t et =
-      let q : at + 1 + 2 ≡ at + 3 = omega arith in
-      et ∙ rw (here, e, q, er, el, ea, eb)
+  here-beside wp wq l r e ep eq el er = rw (here, er, el, ep, eq, e)
 
 -- ---- the first fault of the part at a place
 
+-- where parts in turn have no fault, the last one ends where the walk that skips them does
+times-next : (f : ℕ → Reading) (g : ℕ → ℕ) → ((b a : ℕ) → f b ≡ Next a → a ≡ g b)
+    → (n b a : ℕ) → readTimes n f b ≡ Next a → a ≡ skip n g b
+times-next f g h zero b a e = cc
+times-next f g h (suc n) b a e = go (λ m. times-next f g h n m a) (f b) refl e
+  where
+    go : ((m : ℕ) → readTimes n f m ≡ Next a → a ≡ skip n g m)
+        → (r : Reading) → f b ≡ r → andThen r (readTimes n f) ≡ Next a → a ≡ skip n g (g b)
+    go ih (Next m) er e = rw (← h b m er) (ih m e)
+    go ih (Wrong m) er e = let z : _≡_ {A = ℕ} 0 1 = cc in absurd (omega arith)
+
+judge-next : (s : List ℕ) (named : ℕ → Part) (d at a : ℕ) → judge s named d at ≡ Next a → a ≡ after s d at
+unfolding judge after
+judge-next s named zero at a e = cc
+judge-next s named (suc d) at a e =
+    go (times-next (judge s named d) (after s d) (judge-next s named d) (partsOf (getD s at 0)) (below s at) a)
+    (ltb at (length s)) (rightHere (partAt s named (suc d) at)) e
+  where
+    go : (readTimes (partsOf (getD s at 0)) (judge s named d) (below s at) ≡ Next a
+        → a ≡ skip (partsOf (getD s at 0)) (after s d) (below s at))
+        → (t u : Bool) → cond t (cond u (readTimes (partsOf (getD s at 0)) (judge s named d) (below s at)) (Wrong at)) (Next at) ≡ Next a
+        → a ≡ cond t (skip (partsOf (getD s at 0)) (after s d) (below s at)) at
+    go ih false u e = cc
+    go ih true false e = let z : _≡_ {A = ℕ} 0 1 = cc in absurd (omega arith)
+    go ih true true e = ih e
+
+-- two parts, where it is known at which place the second stands
+times-both : (f : ℕ → Reading) (b m : ℕ) (l : Reading) → l ≡ f b → ((a : ℕ) → f b ≡ Next a → a ≡ m)
+    → firstOf l (f m) ≡ readTimes 2 f b
+times-both f b m (Next a) e h = rw (← e, h a (sym e)) (sym (then-next (f m)))
+times-both f b m (Wrong a) e h = rw (← e)
+
 module _ (s : List ℕ) (named : ℕ → Part) (d at : ℕ) where
-  pub judge-zero : d ≡ 0 → Next at ≡ judge s named d at
+  judge-zero : d ≡ 0 → Next at ≡ judge s named d at
   unfolding judge
   judge-zero e = rw e
 
-  pub judge-end : length s ≤ at → Next at ≡ judge s named d at
+  judge-end : length s ≤ at → Next at ≡ judge s named d at
   unfolding judge
   judge-end h = go d
     where
@@ -117,38 +157,82 @@ module _ (s : List ℕ) (named : ℕ → Part) (d at : ℕ) where
       go zero = refl
       go (suc d) = rw (le-ltb at (length s) h)
 
-  module _ (hd : d ≡ 0 → ⊥) (h : at < length s) (t : Bool) (et : t ≡ rightHere (partAt s named d at)) where
-    judge-step : judge s named d at ≡ cond t (readTimes (partsOf (getD s at 0)) (judge s named (d - 1)) (below s at)) (Wrong at)
-    unfolding judge
-    judge-step = go d hd et
-      where
-        go : (d : ℕ) → (d ≡ 0 → ⊥) → t ≡ rightHere (partAt s named d at)
-            → judge s named d at ≡ cond t (readTimes (partsOf (getD s at 0)) (judge s named (d - 1)) (below s at)) (Wrong at)
-        go zero hd et = absurd (hd refl)
-        go (suc d) hd et = rw (lt-ltb at (length s) h, et, sub-one)
+  judge-step : (d ≡ 0 → ⊥) → at < length s → (t : Bool) → rightHere (partAt s named d at) ≡ t
+      → judge s named d at ≡ cond t (readTimes (partsOf (getD s at 0)) (judge s named (d - 1)) (below s at)) (Wrong at)
+  unfolding judge
+  judge-step hd h t et = go d hd et
+    where
+      go : (d : ℕ) → (d ≡ 0 → ⊥) → rightHere (partAt s named d at) ≡ t
+          → judge s named d at ≡ cond t (readTimes (partsOf (getD s at 0)) (judge s named (d - 1)) (below s at)) (Wrong at)
+      go zero hd et = absurd (hd refl)
+      go (suc d) hd et = rw (lt-ltb at (length s) h, et, sub-one)
 
-    pub judge-wrong : not t ≡ true → Wrong at ≡ judge s named d at
-    judge-wrong q = sym (judge-step ∙ rw (not-true t q))
+-- ---- what the walk finds at a place
 
-    -- x is the row of the code at the place
-    module _ (q : not t ≡ false) (x : Shape) (ex : x ≡ shapeAt (getD s at 0)) where
-      by-row : judge s named d at ≡ readTimes (x .parts) (judge s named (d - 1)) (at + 1 + x .operands)
-      by-row = judge-step ∙ rw (not-false t q, ex)
+pub leaf-row : (c : ℕ) (x : Shape) → x ≡ shapeAt c → x .parts ≡ 0 → partsOf c ≡ 0
+leaf-row c x ex z = rw ex at z
 
-      pub judge-leaf : x .parts ≡ 0 → Next (at + 1 + x .operands) ≡ judge s named d at
-      judge-leaf z = sym (by-row ∙ times-none (judge s named (d - 1)) (x .parts) (at + 1 + x .operands) z)
+-- nothing stands there
+abbrev Nothing : ℕ → Judged → Type 0
+Nothing at j = (j .masks ≡ record { tests = 0; writes = 0; next = at }) × (j .fault ≡ Next at)
 
-      module _ (l : Reading) (el : l ≡ judge s named (d - 1) (at + 1 + x .operands)) (n0 : x .parts ≡ 0 → ⊥) where
-        pub judge-left : (r : ℕ) → l ≡ Wrong r → l ≡ judge s named d at
-        judge-left r e = e ∙ sym (by-row ∙ times-wrong (judge s named (d - 1)) (x .parts) (at + 1 + x .operands) r n0 (sym el ∙ e))
+module _ (s : List ℕ) (named : ℕ → Part) (d at : ℕ) (j : Judged) (n : Nothing at j) where
+  pub zero-found : d ≡ 0 → Found s named d at j
+  zero-found e = (n .0 ∙ masks-zero s named d at e, n .1 ∙ judge-zero s named d at e)
 
-        pub judge-one : (m : ℕ) → l ≡ Next m → x .parts ≡ 1 → Next m ≡ judge s named d at
-        judge-one m e z = sym (by-row ∙ times-one (judge s named (d - 1)) (x .parts) (at + 1 + x .operands) m z (sym el ∙ e))
+  pub end-found : length s ≤ at → Found s named d at j
+  end-found h = (n .0 ∙ masks-end s named d at h, n .1 ∙ judge-end s named d at h)
 
-        pub judge-two : (m : ℕ) → l ≡ Next m → (x .parts ≡ 1 → ⊥) → (r : Reading) → r ≡ judge s named (d - 1) m → r ≡ judge s named d at
-        judge-two m e n1 r er =
-            er ∙ sym (by-row
-            ∙ times-two (judge s named (d - 1)) (x .parts) (at + 1 + x .operands) m (parts-few (getD s at 0) x ex) n0 n1 (sym el ∙ e))
+-- x is the row of the code at the place
+module _ (s : List ℕ) (main : Bool) (d at : ℕ) (hd : d ≡ 0 → ⊥) (h : at < length s) (x : Shape) (ex : x ≡ shapeAt (getD s at 0)) where
+  other-step : (getD s at 0 ≡ 7 → ⊥)
+      → judge s (uses s main) d at ≡ readTimes (x .parts) (judge s (uses s main) (d - 1)) (at + 1 + x .operands)
+  other-step n = judge-step s (uses s main) d at hd h true (here-other s main d at hd n) ∙ rw ex
+
+  not-beside : (n : ℕ) → n < 2 → x .parts ≡ n → getD s at 0 ≡ 7 → ⊥
+  not-beside n l e q = let f : x .parts ≡ 2 = rw (ex, q) in omega arith
+
+  pub leaf-found : (o : Masks) → o ≡ masksOf (built s (uses s main) at (getD s at 0) Id Id) (at + 1 + x .operands) → x .parts ≡ 0
+      → Found s (uses s main) d at (record { masks = o; fault = Next (at + 1 + x .operands) })
+  leaf-found o eo z = (
+    masks-leaf s (uses s main) d at hd h x ex o eo z,
+    sym (other-step (not-beside 0 (omega arith) z) ∙ rw z),
+  )
+
+  module _ (l : Judged) (el : Found s (uses s main) (d - 1) (at + 1 + x .operands) l) where
+    pub one-found : x .parts ≡ 1 → Found s (uses s main) d at l
+    one-found z = (
+      masks-one s (uses s main) d at hd h x ex (l .masks) (el .0) z,
+      el .1 ∙ sym (other-step (not-beside 1 (omega arith) z) ∙ rw z (then-next (judge s (uses s main) (d - 1) (at + 1 + x .operands)))),
+    )
+
+    module _ (r : Judged) (er : Found s (uses s main) (d - 1) (l .masks .next) r) (n0 : x .parts ≡ 0 → ⊥) (n1 : x .parts ≡ 1 → ⊥) where
+      both-fault : firstOf (l .fault) (r .fault) ≡ readTimes (x .parts) (judge s (uses s main) (d - 1)) (at + 1 + x .operands)
+      unfolding masksAt
+      both-fault =
+          let f = parts-few (getD s at 0) x ex in
+          let two : x .parts ≡ 2 = omega arith in
+          let b : ℕ = at + 1 + x .operands in
+          let m : after s (d - 1) b ≡ l .masks .next = sym (ap (λ (p : Masks). p .next) (el .0)) in
+          rw (er .1, two)
+          (times-both (judge s (uses s main) (d - 1)) b (l .masks .next) (l .fault) (el .1)
+          (λ a q. judge-next s (uses s main) (d - 1) b a q ∙ m))
+
+      pub both-found : (z : Judged) → (getD s at 0 ≡ 7 → ⊥) → BothFound l r z → Found s (uses s main) d at z
+      both-found z n7 ez = (
+        ez .0 ∙ masks-both s (uses s main) d at hd h x ex (l .masks) (el .0) (r .masks) (er .0) n0 n1 n7,
+        ez .1 ∙ both-fault ∙ sym (other-step n7),
+      )
+
+      pub beside-found : (z : Judged) (wp wq : ℕ) → getD s at 0 ≡ 7 → wp ≡ getD s (at + 1) 0 → wq ≡ getD s (at + 2) 0
+          → wp < 256 → wq < 256 → BesideFound at wp wq l r z → Found s (uses s main) d at z
+      beside-found z wp wq e ep eq lp lq ez =
+          let t : Bool = rightSides wp wq (l .masks) (r .masks) in
+          let right : rightHere (partAt s (uses s main) d at) ≡ t
+          = here-beside s main d at hd wp wq (l .masks) (r .masks) e ep eq (el .0 ∙ rw ex) (er .0) in (
+            ez .0 ∙ masks-beside s (uses s main) d at hd h x ex (l .masks) (el .0) (r .masks) (er .0) n0 n1 wp wq e ep eq lp lq,
+            ez .1 ∙ rw both-fault (sym (judge-step s (uses s main) d at hd h t right ∙ rw ex)),
+          )
 
 -- ---- the bodies
 
@@ -166,42 +250,50 @@ module _ (s : List ℕ) (x n : ℕ) (en : n ≡ lengthAt s x) where
     unfolding judgeEntry
     judge-body r e = e ∙ rw (ne-eqb (lengthAt s x) 0 (λ q. z (en ∙ q)), em, ea)
 
-    module _ (p : Masks) (r w : ℕ) (ep : p ≡ masksAt s (uses s main) mostDepth at) (er : r ≡ readsAt s x) (ew : w ≡ writesAt s x)
-        (t : Bool) (et : t ≡ fitMasked r w p) where
-      fit-is : t ≡ fitMasked (readsAt s x) (writesAt s x) (masksAt s (uses s (eqb x 0)) mostDepth (bodyStart s x))
-      fit-is = et ∙ rw (er, ew, ep, em, ea)
+    pub fit-body : (p : Masks) (r w : ℕ) (f : Reading) → p ≡ masksAt s (uses s main) mostDepth at → r ≡ readsAt s x → w ≡ writesAt s x
+        → f ≡ fitIf (fitMasked r w p) at → f ≡ fitEntry s x
+    unfolding fitEntry
+    fit-body p r w f ep er ew e = e ∙ rw (ne-eqb (lengthAt s x) 0 (λ q. z (en ∙ q)), er, ew, ep, em, ea)
 
-      pub fit-right : t ≡ true → Next 0 ≡ fitEntry s x
-      unfolding fitEntry
-      fit-right q = rw (ne-eqb (lengthAt s x) 0 (λ e. z (en ∙ e)), ← fit-is, q)
+-- ---- the bodies in turn: what is left from entry x on, where the first body so far that does not fit is kept
 
-      pub fit-wrong : t ≡ false → Wrong at ≡ fitEntry s x
-      unfolding fitEntry
-      fit-wrong q = rw (ne-eqb (lengthAt s x) 0 (λ e. z (en ∙ e)), ← fit-is, q, ea)
+abbrev pub faultFrom : List ℕ → ℕ → ℕ → Reading → Reading
+faultFrom s n x unfit = firstOf (inTurn (judgeEntry s) n x) (firstOf unfit (inTurn (fitEntry s) n x))
 
--- in turn: what is left from entry x on
-pub turn-start : (f : ℕ → Reading) (k m : ℕ) → m ≡ k → inTurn f (suc k) 0 ≡ inTurn f (suc m - 0) 0
-turn-start f k m e = rw (e, sub-zero)
+-- the fault of a whole book
+abbrev pub faultOf : List ℕ → Reading
+faultOf s = faultFrom s (suc (tablesOf s)) 0 (Next 0)
 
-module _ (f : ℕ → Reading) (n x : ℕ) where
-  pub turn-end : n ≤ x → inTurn f (n - x) x ≡ Next 0
-  unfolding inTurn
-  turn-end h = let e : n - x ≡ 0 = omega arith in rw e
+in-turn : (f : ℕ → Reading) (n x : ℕ) → x < n → inTurn f (n - x) x ≡ andThen (f x) (λ a. inTurn f (n - (x + 1)) (x + 1))
+unfolding inTurn
+in-turn f n x h = turn-more f (inTurn f) (λ n x. refl) n x h
 
-  turn-more : x < n → inTurn f (n - x) x ≡ andThen (f x) (λ a. inTurn f (n - (x + 1)) (x + 1))
-  unfolding inTurn
-  turn-more h =
-      let e : n - x ≡ suc (n - (x + 1)) = omega arith in
-      let g : suc x ≡ x + 1 = omega arith in
-      rw (e, ← g)
+then-then : (a b c : Reading) → firstOf a (firstOf b c) ≡ firstOf (firstOf a b) c
+then-then (Next i) b c = refl
+then-then (Wrong i) b c = refl
 
-  module _ (b : Reading) (h : x < n) (eb : b ≡ f x) where
-    pub turn-stop : (r : ℕ) → b ≡ Wrong r → inTurn f (n - x) x ≡ b
-    turn-stop r q = turn-more h ∙ rw (← eb, q)
+module _ (s : List ℕ) where
+  pub faults-start : (m : ℕ) → m ≡ tablesOf s → faultOf s ≡ faultFrom s (suc m - 0) 0 (Next 0)
+  faults-start m e = rw (e, sub-zero)
 
-    pub turn-step : (a : ℕ) → b ≡ Next a → inTurn f (n - x) x ≡ inTurn f (n - (x + 1)) (x + 1)
-    turn-step a q = turn-more h ∙ rw (← eb, q)
+  module _ (n x : ℕ) (unfit : Reading) where
+    faults-end : n ≤ x → faultFrom s (n - x) x unfit ≡ firstOf unfit (Next 0)
+    unfolding inTurn
+    faults-end h = let e : n - x ≡ 0 = omega arith in rw e
 
--- which of the two faults is looked for
-pub fault-as : (s : List ℕ) (x : ℕ) (b c : Bool) {r : Reading} → b ≡ c → r ≡ faultIn s c x → r ≡ faultIn s b x
-fault-as s x b c e h = h ∙ sym (ap (λ (d : Bool). faultIn s d x) e)
+    pub unfit-left : n ≤ x → (at : ℕ) → unfit ≡ Wrong at → faultFrom s (n - x) x unfit ≡ Wrong at
+    unfit-left h at q = faults-end h ∙ rw q
+
+    pub none-left : n ≤ x → (a : ℕ) → unfit ≡ Next a → faultFrom s (n - x) x unfit ≡ Next 0
+    none-left h a q = faults-end h ∙ rw q
+
+    module _ (h : x < n) (parts : Reading) (ep : parts ≡ judgeEntry s x) where
+      pub faults-stop : (at : ℕ) → parts ≡ Wrong at → faultFrom s (n - x) x unfit ≡ Wrong at
+      faults-stop at q = rw (in-turn (judgeEntry s) n x h, ← ep, q)
+
+      pub faults-step : (a : ℕ) (body u : Reading) → parts ≡ Next a → body ≡ fitEntry s x → u ≡ firstOf unfit body
+          → faultFrom s (n - x) x unfit ≡ faultFrom s (n - (x + 1)) (x + 1) u
+      faults-step a body u q eb eu =
+          rw (in-turn (judgeEntry s) n x h, ← ep, q, in-turn (fitEntry s) n x h, ← eb, eu)
+          (ap (firstOf (inTurn (judgeEntry s) (n - (x + 1)) (x + 1)))
+          (then-then unfit body (inTurn (fitEntry s) (n - (x + 1)) (x + 1))))

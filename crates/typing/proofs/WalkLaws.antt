@@ -9,7 +9,6 @@ use mathlib.Core.Option.{Option, none, some}
 use lib.Bits.{bitOr, or-mod}
 use lib.ListN.{length, getD}
 use lib.Pow.{pow-add}
-use borrow.Author.Tests.{eq-eqb, ne-eqb}
 use Rattle.rules.specs.Codes.{shapeAt, partsOf}
 use Rattle.rules.specs.declared.Shape.{Shape}
 use Rattle.rules.specs.Masks.{field}
@@ -21,7 +20,7 @@ use Rattle.book.specs.Counting.{uses}
 use Rattle.book.proofs.CodeLaws.{by-code, part-zero, part-end, part-suc}
 use Rattle.book.proofs.PlaceLaws.{after-zero, after-end, after-none, after-one, after-two, below-is, parts-few}
 use Rattle.typing.specs.declared.Masks.{Masks}
-use Rattle.typing.specs.Judging.{low, masksOf, masksAt, pairMasks}
+use Rattle.typing.specs.Judging.{low, masksOf, masksAt}
 
 abbrev made : ℕ → ℕ → ℕ → Masks
 made t w n = record { tests = t; writes = w; next = n }
@@ -55,7 +54,7 @@ pub use-id : (s : List ℕ) (x next : ℕ) (main : Bool) → main ≡ false → 
 unfolding tested written
 use-id s x next main e = rw e
 
--- a code's own masks, over any two parts
+-- the masks of a code with no part below it
 module _ (s : List ℕ) (named : ℕ → Part) (at next : ℕ) where
   module _ (a : ℕ) (ea : a ≡ getD s (at + 1) 0) where
     pub own-test : (m : ℕ) → getD s at 0 ≡ 2 → m ≡ low (field a) → made m 0 next ≡ masksOf (built s named at (getD s at 0) Id Id) next
@@ -66,29 +65,17 @@ module _ (s : List ℕ) (named : ℕ → Part) (at next : ℕ) where
     unfolding built tested written
     own-set m e q = rw (e, q, ea)
 
-    pub own-beside : (b : ℕ) → getD s at 0 ≡ 7 → b ≡ getD s (at + 2) 0 → a < 256 → b < 256
-        → made 0 (bitOr a b) next ≡ masksOf (built s named at (getD s at 0) Id Id) next
-    unfolding built tested written
-    own-beside b e eb la lb = rw (e, ← ea, ← eb, low-or a b, low-small a la, low-small b lb)
-
     pub own-use : (m : Masks) → getD s at 0 ≡ 8 → m ≡ masksOf (named a) next → m ≡ masksOf (built s named at (getD s at 0) Id Id) next
     unfolding built
     own-use m e q = q ∙ rw (ea, e)
 
-  pub own-plain : (getD s at 0 ≡ 2 → ⊥) → (getD s at 0 ≡ 3 → ⊥) → (getD s at 0 ≡ 7 → ⊥) → (getD s at 0 ≡ 8 → ⊥)
+  pub own-plain : partsOf (getD s at 0) ≡ 0 → (getD s at 0 ≡ 2 → ⊥) → (getD s at 0 ≡ 3 → ⊥) → (getD s at 0 ≡ 8 → ⊥)
       → made 0 0 next ≡ masksOf (built s named at (getD s at 0) Id Id) next
   unfolding built tested written
   own-plain =
-      by-code (λ c. (c ≡ 2 → ⊥) → (c ≡ 3 → ⊥) → (c ≡ 7 → ⊥) → (c ≡ 8 → ⊥) → made 0 0 next ≡ masksOf (built s named at c Id Id) next)
-      (λ a b c d. refl) (λ a b c d. refl) (λ a b c d. absurd (a refl)) (λ a b c d. absurd (b refl)) (λ a b c d. refl) (λ a b c d. refl)
-      (λ a b c d. refl) (λ a b c d. absurd (c refl)) (λ a b c d. absurd (d refl)) (λ n a b c d. refl) (getD s at 0)
-
-pub pair-beside : (code : ℕ) (o l r : Masks) → code ≡ 7 → made (bitOr (l .tests) (r .tests)) (o .writes) (r .next) ≡ pairMasks code o l r
-pair-beside code o l r e = rw (eq-eqb code 7 e)
-
-pub pair-other : (code : ℕ) (o l r : Masks) → (code ≡ 7 → ⊥)
-    → made (bitOr (l .tests) (r .tests)) (bitOr (l .writes) (r .writes)) (r .next) ≡ pairMasks code o l r
-pair-other code o l r e = rw (ne-eqb code 7 e)
+      by-code (λ c. partsOf c ≡ 0 → (c ≡ 2 → ⊥) → (c ≡ 3 → ⊥) → (c ≡ 8 → ⊥) → made 0 0 next ≡ masksOf (built s named at c Id Id) next)
+      (λ e a b d. refl) (λ e a b d. refl) (λ e a b d. absurd (a refl)) (λ e a b d. absurd (b refl)) (λ e a b d. refl) (λ e a b d. refl)
+      (λ e a b d. refl) (λ e a b d. absurd (omega arith)) (λ e a b d. absurd (d refl)) (λ n e a b d. refl) (getD s at 0)
 
 -- ---- by how many parts stand below a code
 
@@ -108,16 +95,22 @@ module _ (s : List ℕ) (named : ℕ → Part) (at n : ℕ) (l r : Part) where
       (λ e. absurd (omega arith)) (λ e. absurd (omega arith)) (λ e. refl) (λ e. absurd (omega arith)) (λ e. absurd (omega arith))
       (λ e. absurd (omega arith)) (λ e. absurd (omega arith)) (λ c e. absurd (omega arith))
 
-  over-two : (a o c : ℕ) → partsOf c ≡ 2
-      → pairMasks c (masksOf (built s named at c Id Id) o) (masksOf l a) (masksOf r n) ≡ masksOf (built s named at c l r) n
+  over-both : (c : ℕ) → partsOf c ≡ 2 → (c ≡ 7 → ⊥)
+      → made (bitOr (low (tested l)) (low (tested r))) (bitOr (low (written l)) (low (written r))) n ≡ masksOf (built s named at c l r) n
   unfolding built tested written
-  over-two a o =
-      by-code (λ c. partsOf c ≡ 2 → pairMasks c (masksOf (built s named at c Id Id) o) (masksOf l a) (masksOf r n)
-      ≡ masksOf (built s named at c l r) n)
-      (λ e. absurd (omega arith)) (λ e. absurd (omega arith)) (λ e. absurd (omega arith)) (λ e. absurd (omega arith))
-      (λ e. absurd (omega arith)) (λ e. rw (low-or (tested l) (tested r), low-or (written l) (written r)))
-      (λ e. rw (low-or (tested l) (tested r), low-or (written l) (written r))) (λ e. rw (low-or (tested l) (tested r)))
-      (λ e. absurd (omega arith)) (λ c e. absurd (omega arith))
+  over-both =
+      by-code (λ c. partsOf c ≡ 2 → (c ≡ 7 → ⊥)
+      → made (bitOr (low (tested l)) (low (tested r))) (bitOr (low (written l)) (low (written r))) n ≡ masksOf (built s named at c l r) n)
+      (λ e h. absurd (omega arith)) (λ e h. absurd (omega arith)) (λ e h. absurd (omega arith)) (λ e h. absurd (omega arith))
+      (λ e h. absurd (omega arith)) (λ e h. rw (low-or (tested l) (tested r), low-or (written l) (written r)))
+      (λ e h. rw (low-or (tested l) (tested r), low-or (written l) (written r))) (λ e h. absurd (h refl))
+      (λ e h. absurd (omega arith)) (λ c e h. absurd (omega arith))
+
+  over-beside : (wp wq c : ℕ) → c ≡ 7 → wp ≡ getD s (at + 1) 0 → wq ≡ getD s (at + 2) 0 → wp < 256 → wq < 256
+      → made (bitOr (low (tested l)) (low (tested r))) (bitOr wp wq) n ≡ masksOf (built s named at c l r) n
+  unfolding built tested written
+  over-beside wp wq c e ep eq lp lq =
+      rw (e, ← ep, ← eq, low-or (tested l) (tested r), low-or wp wq, low-small wp lp, low-small wq lq)
 
 -- ---- the part at a place
 
@@ -144,32 +137,44 @@ module _ (s : List ℕ) (named : ℕ → Part) (d at : ℕ) (hd : d ≡ 0 → �
   row : x .parts ≡ partsOf (getD s at 0)
   row = ap (λ (y : Shape). y .parts) ex
 
-  module _ (o : Masks) (eo : o ≡ masksOf (built s named at (getD s at 0) Id Id) (at + 1 + x .operands)) where
-    pub masks-leaf : x .parts ≡ 0 → o ≡ masksAt s named d at
-    masks-leaf z =
-        eo ∙ over-none s named at (at + 1 + x .operands) left right (getD s at 0) (sym row ∙ z)
-        ∙ to-here (at + 1 + x .operands) (after-none s d at hd h x ex z)
+  pub masks-leaf : (o : Masks) → o ≡ masksOf (built s named at (getD s at 0) Id Id) (at + 1 + x .operands) → x .parts ≡ 0
+      → o ≡ masksAt s named d at
+  masks-leaf o eo z =
+      eo ∙ over-none s named at (at + 1 + x .operands) left right (getD s at 0) (sym row ∙ z)
+      ∙ to-here (at + 1 + x .operands) (after-none s d at hd h x ex z)
 
-    module _ (l : Masks) (el : l ≡ masksAt s named (d - 1) (at + 1 + x .operands)) where
-      left-is : l ≡ masksOf left (after s (d - 1) (below s at))
-      unfolding masksAt left
-      left-is = el ∙ rw (below-is s at x ex)
+  module _ (l : Masks) (el : l ≡ masksAt s named (d - 1) (at + 1 + x .operands)) where
+    left-is : l ≡ masksOf left (after s (d - 1) (below s at))
+    unfolding masksAt left
+    left-is = el ∙ rw (below-is s at x ex)
 
-      pub masks-one : x .parts ≡ 1 → l ≡ masksAt s named d at
-      masks-one z =
-          let n : after s (d - 1) (below s at) ≡ after s d at
-          = after-one s d at hd h x ex (after s (d - 1) (below s at)) (rw (below-is s at x ex)) z in
-          left-is ∙ over-one s named at (after s (d - 1) (below s at)) left right (getD s at 0) (sym row ∙ z)
-          ∙ to-here (after s (d - 1) (below s at)) n
+    pub masks-one : x .parts ≡ 1 → l ≡ masksAt s named d at
+    masks-one z =
+        let n : after s (d - 1) (below s at) ≡ after s d at
+        = after-one s d at hd h x ex (after s (d - 1) (below s at)) (rw (below-is s at x ex)) z in
+        left-is ∙ over-one s named at (after s (d - 1) (below s at)) left right (getD s at 0) (sym row ∙ z)
+        ∙ to-here (after s (d - 1) (below s at)) n
 
-      pub masks-two : (r z : Masks) → (x .parts ≡ 0 → ⊥) → (x .parts ≡ 1 → ⊥) → r ≡ masksAt s named (d - 1) (l .next)
-          → z ≡ pairMasks (getD s at 0) o l r → z ≡ masksAt s named d at
-      unfolding masksAt right
-      masks-two r z n0 n1 er ez =
-          let m : ℕ = after s (d - 1) (below s at) in
-          let n : ℕ = after s (d - 1) m in
-          let e : n ≡ after s d at = after-two s d at hd h x ex m n (rw (below-is s at x ex)) refl n0 n1 in
-          let f = parts-few (getD s at 0) x ex in
-          let two : partsOf (getD s at 0) ≡ 2 = omega (arith, row) in
-          let er′ : r ≡ masksOf right n = er ∙ rw left-is in
-          ez ∙ rw (eo, left-is, er′) (over-two s named at n left right m (at + 1 + x .operands) (getD s at 0) two ∙ to-here n e)
+    module _ (r : Masks) (er : r ≡ masksAt s named (d - 1) (l .next)) (n0 : x .parts ≡ 0 → ⊥) (n1 : x .parts ≡ 1 → ⊥) where
+      end : ℕ
+      end = after s (d - 1) (after s (d - 1) (below s at))
+
+      end-is : end ≡ after s d at
+      unfolding end
+      end-is = after-two s d at hd h x ex (after s (d - 1) (below s at)) end (rw (below-is s at x ex)) refl n0 n1
+
+      right-is : r ≡ masksOf right end
+      unfolding masksAt right end
+      right-is = er ∙ rw left-is
+
+      two : partsOf (getD s at 0) ≡ 2
+      two = let f = parts-few (getD s at 0) x ex in omega (arith, row)
+
+      pub masks-both : (getD s at 0 ≡ 7 → ⊥)
+          → made (bitOr (l .tests) (r .tests)) (bitOr (l .writes) (r .writes)) (r .next) ≡ masksAt s named d at
+      masks-both n7 = rw (left-is, right-is) (over-both s named at end left right (getD s at 0) two n7 ∙ to-here end end-is)
+
+      pub masks-beside : (wp wq : ℕ) → getD s at 0 ≡ 7 → wp ≡ getD s (at + 1) 0 → wq ≡ getD s (at + 2) 0 → wp < 256 → wq < 256
+          → made (bitOr (l .tests) (r .tests)) (bitOr wp wq) (r .next) ≡ masksAt s named d at
+      masks-beside wp wq e ep eq lp lq =
+          rw (left-is, right-is) (over-beside s named at end left right wp wq (getD s at 0) e ep eq lp lq ∙ to-here end end-is)

@@ -1,6 +1,7 @@
 -- The typing as it is judged on the bytes: masks of eight bits, and each fault at the place where the bytes have it.
 use Prim.Native.Nat.{ℕ, zero, suc, _%_}
-use mathlib.Core.Bool.{Bool, true, cond, false}
+use mathlib.Core.Path.{_≡_}
+use mathlib.Core.Bool.{Bool, true, cond}
 use mathlib.Core.List.{List}
 use lib.Bits.{bitOr}
 use lib.Dec.{ltb, eqb}
@@ -14,6 +15,7 @@ use Rattle.rules.specs.Books.{mostDepth}
 use Rattle.rules.specs.Reading.{andThen, readTimes, below, after, partAt, lengthAt, readsAt, writesAt, bodyStart}
 use Rattle.book.specs.Counting.{uses}
 use Rattle.typing.specs.declared.Masks.{Masks}
+use Rattle.typing.specs.declared.Judged.{Judged}
 
 -- a mask by its first eight fields
 abbrev pub low : ℕ → ℕ
@@ -25,14 +27,6 @@ masksOf p next = record { tests = low (tested p); writes = low (written p); next
 
 unfoldable pub masksAt : List ℕ → (ℕ → Part) → ℕ → ℕ → Masks
 masksAt s named d at = masksOf (partAt s named d at) (after s d at)
-
--- a code over two parts, from its own masks and theirs
-abbrev pub pairMasks : ℕ → Masks → Masks → Masks → Masks
-pairMasks code own l r = record {
-  tests = bitOr (l .tests) (r .tests);
-  writes = cond (eqb code 7) (own .writes) (bitOr (l .writes) (r .writes));
-  next = r .next;
-}
 
 -- a concurrent part that is not right is a fault by itself, whatever stands below it
 unfoldable pub rightHere : Part → Bool
@@ -54,6 +48,36 @@ judge s named (suc d) at =
     cond (ltb at (length s))
     (cond (rightHere (partAt s named (suc d) at)) (readTimes (partsOf (getD s at 0)) (judge s named d) (below s at)) (Wrong at)) (Next at)
 
+-- what one walk finds of the part at a place
+abbrev pub Found : List ℕ → (ℕ → Part) → ℕ → ℕ → Judged → Type 0
+Found s named d at j = (j .masks ≡ masksAt s named d at) × (j .fault ≡ judge s named d at)
+
+-- of two faults, the first in book order
+abbrev pub firstOf : Reading → Reading → Reading
+firstOf l r = andThen l (λ a. r)
+
+-- what is found of a sum or a sequence: the unions of the masks
+abbrev pub BothFound : Judged → Judged → Judged → Type 0
+BothFound l r j =
+    let p = l .masks in
+    let q = r .masks in
+    (j .masks ≡ record { tests = bitOr (p .tests) (q .tests); writes = bitOr (p .writes) (q .writes); next = q .next })
+    × (j .fault ≡ firstOf (l .fault) (r .fault))
+
+-- of a concurrent part at a place: it writes by its own masks, and if it is not right, it comes before the faults below it
+abbrev pub rightSides : ℕ → ℕ → Masks → Masks → Bool
+rightSides wp wq p q = rightMasks wp wq (p .tests) (p .writes) (q .tests) (q .writes)
+
+abbrev pub firstAt : ℕ → Bool → Reading → Reading
+firstAt at right below = cond right below (Wrong at)
+
+abbrev pub BesideFound : ℕ → ℕ → ℕ → Judged → Judged → Judged → Type 0
+BesideFound at wp wq l r j =
+    let p = l .masks in
+    let q = r .masks in
+    (j .masks ≡ record { tests = bitOr (p .tests) (q .tests); writes = bitOr wp wq; next = q .next })
+    × (j .fault ≡ firstAt at (rightSides wp wq p q) (firstOf (l .fault) (r .fault)))
+
 -- the body of entry x: its concurrent parts, and whether it fits; an entry with no body has no fault
 unfoldable pub judgeEntry : List ℕ → ℕ → Reading
 judgeEntry s x = cond (eqb (lengthAt s x) 0) (Next 0) (judge s (uses s (eqb x 0)) mostDepth (bodyStart s x))
@@ -61,16 +85,13 @@ judgeEntry s x = cond (eqb (lengthAt s x) 0) (Next 0) (judge s (uses s (eqb x 0)
 abbrev pub fitMasked : ℕ → ℕ → Masks → Bool
 fitMasked r w p = fitMasks r w (p .tests) (p .writes)
 
+abbrev pub fitIf : Bool → ℕ → Reading
+fitIf t start = cond t (Next 0) (Wrong start)
+
 unfoldable pub fitEntry : List ℕ → ℕ → Reading
 fitEntry s x =
     cond (eqb (lengthAt s x) 0) (Next 0)
-    (cond (fitMasked (readsAt s x) (writesAt s x) (masksAt s (uses s (eqb x 0)) mostDepth (bodyStart s x))) (Next 0)
-    (Wrong (bodyStart s x)))
-
--- what is looked for in the body of an entry: a concurrent part that is not right, or that the body does not fit
-abbrev pub faultIn : List ℕ → Bool → ℕ → Reading
-faultIn s false = judgeEntry s
-faultIn s true = fitEntry s
+    (fitIf (fitMasked (readsAt s x) (writesAt s x) (masksAt s (uses s (eqb x 0)) mostDepth (bodyStart s x))) (bodyStart s x))
 
 -- n entries from x on, up to the first fault
 unfoldable pub inTurn : (ℕ → Reading) → ℕ → ℕ → Reading

@@ -1,23 +1,29 @@
-// The two masks of a part, the number 7 with its place, and the whole verdict on a book.
+// The two masks of a part and the number 7 from one walk, and the whole verdict on a book.
 use rules::Reading;
 use rules::Refusal;
 use rules::Verdict;
 ghost use mathlib.Core.Path.{_≡_};
-ghost use mathlib.Core.Bool.{true, false};
-ghost use Prim.Native.Nat.{suc, _<_};
+ghost use Prim.Native.Nat.{_<_};
 ghost use lib.ListN.{getD, length};
+ghost use Rattle.rules.specs.Codes.{partsOf};
 ghost use Rattle.rules.specs.Masks.{field};
 ghost use Rattle.rules.specs.Parts.{Id};
-ghost use Rattle.rules.specs.Typing.{rightMasks, fitMasks};
-ghost use Rattle.rules.specs.Reading.{built, partAt, tablesOf, verdict};
+ghost use Rattle.rules.specs.Reading.{built, verdict};
 ghost use Rattle.book.specs.Counting.{uses};
-ghost use Rattle.typing.specs.Judging.{low, masksOf, masksAt, pairMasks, rightHere, judge, judgeEntry, fitEntry, faultIn, inTurn};
+ghost use Rattle.typing.specs.Judging.{low, masksOf, rightSides, firstOf, firstAt, BothFound, BesideFound};
+ghost use Rattle.typing.specs.Judging.{Found, judgeEntry, fitMasked, fitIf, fitEntry};
 
 // Fields tested, fields that may be written, and the place after the part.
 pub struct Masks {
     pub tests: u8,
     pub writes: u8,
     pub next: usize,
+}
+
+// What one walk finds of a part: its masks, and its first concurrent part in book order that is not right.
+pub struct Judged {
+    pub masks: Masks,
+    pub fault: Reading,
 }
 
 // The mask of one field, of the first eight.
@@ -47,9 +53,9 @@ fn use_masks(s: &[u8], main: bool, x: u8, next: usize) -> Masks
     }
 }
 
-// The masks of a part's own code and operands.
-fn own_masks(s: &[u8], main: bool, at: usize, next: usize) -> Masks
-    requires { ⌜ at < length (now s) ⌝ }
+// The masks of a part with no part below it.
+fn leaf_masks(s: &[u8], main: bool, at: usize, next: usize) -> Masks
+    requires { ⌜ (at < length (now s)) × (partsOf (getD (now s) at 0) ≡ 0) ⌝ }
     ensures { λ r. ⌜ r ≡ masksOf (built (now (s .entry)) (uses (now (s .entry)) main) at (getD (now (s .entry)) at 0) Id Id) next ⌝ }
 {
     let code = s[at];
@@ -65,11 +71,6 @@ fn own_masks(s: &[u8], main: bool, at: usize, next: usize) -> Masks
             writes: bit(a),
             next,
         },
-        7 => Masks {
-            tests: 0,
-            writes: a | book::byte_at(s, at + 2),
-            next,
-        },
         8 => use_masks(s, main, a, next),
         _ => Masks {
             tests: 0,
@@ -79,65 +80,9 @@ fn own_masks(s: &[u8], main: bool, at: usize, next: usize) -> Masks
     }
 }
 
-// A code over two parts: a concurrent part writes by its own masks.
-fn pair_masks(code: u8, own: Masks, left: Masks, right: Masks) -> Masks
-    ensures { λ r. ⌜ r ≡ pairMasks code own left right ⌝ }
-{
-    let tests = left.tests | right.tests;
-    let next = right.next;
-    if code == 7 {
-        Masks {
-            tests,
-            writes: own.writes,
-            next,
-        }
-    } else {
-        Masks {
-            tests,
-            writes: left.writes | right.writes,
-            next,
-        }
-    }
-}
-
-// T and M of the part at a place, at most depth deep, and the place after it. Past the end and below the depth stands id.
-fn masks_at(s: &[u8], main: bool, at: usize, depth: usize) -> Masks
-    ensures { λ r. ⌜ r ≡ masksAt (now (s .entry)) (uses (now (s .entry)) main) depth at ⌝ }
-{
-    if depth == 0 {
-        return Masks {
-            tests: 0,
-            writes: 0,
-            next: at,
-        };
-    }
-    if s.len() <= at {
-        return Masks {
-            tests: 0,
-            writes: 0,
-            next: at,
-        };
-    }
-    let code = s[at];
-    let shape = rules::shape_of(code);
-    let parts = shape.parts;
-    let from = at + 1 + shape.operands;
-    let own = own_masks(s, main, at, from);
-    if parts == 0 {
-        return own;
-    }
-    let left = masks_at(s, main, from, depth - 1);
-    if parts == 1 {
-        return left;
-    }
-    let middle = left.next;
-    let right = masks_at(s, main, middle, depth - 1);
-    pair_masks(code, own, left, right)
-}
-
 // The rule of a concurrent part with masks wp and wq, over the parts p and q.
 fn right_masks(wp: u8, wq: u8, p: Masks, q: Masks) -> bool
-    ensures { λ r. ⌜ r ≡ rightMasks wp wq (p .tests) (p .writes) (q .tests) (q .writes) ⌝ }
+    ensures { λ r. ⌜ r ≡ rightSides wp wq p q ⌝ }
 {
     if p.writes | wp != wp {
         return false;
@@ -154,121 +99,156 @@ fn right_masks(wp: u8, wq: u8, p: Masks, q: Masks) -> bool
     q.tests & wp == 0
 }
 
-// Is the part at a place, itself, right?
-fn right_here(s: &[u8], main: bool, at: usize, depth: usize) -> bool
-    requires { ⌜ (0 < depth) × (at < length (now s)) ⌝ }
-    ensures { λ r. ⌜ r ≡ rightHere (partAt (now (s .entry)) (uses (now (s .entry)) main) depth at) ⌝ }
+// The first fault of two, one after the other.
+fn first_of(a: Reading, b: Reading) -> Reading
+    ensures { λ r. ⌜ r ≡ firstOf a b ⌝ }
 {
-    let code = s[at];
-    if code != 7 {
-        return true;
+    match a {
+        Reading::Next(_) => b,
+        Reading::Wrong(_) => a,
     }
-    let left = masks_at(s, main, at + 3, depth - 1);
-    let middle = left.next;
-    let right = masks_at(s, main, middle, depth - 1);
-    right_masks(
-        book::byte_at(s, at + 1),
-        book::byte_at(s, at + 2),
-        left,
-        right,
-    )
 }
 
-// The place after the part at a place, or that of the first concurrent part in book order that is not right.
-fn judged(s: &[u8], main: bool, at: usize, depth: usize) -> Reading
-    ensures { λ r. ⌜ r ≡ judge (now (s .entry)) (uses (now (s .entry)) main) depth at ⌝ }
+// The first fault of a concurrent part at a place: itself, if it is not right, before those below it.
+fn first_at(at: usize, right: bool, below: Reading) -> Reading
+    ensures { λ r. ⌜ r ≡ firstAt at right below ⌝ }
+{
+    if right { below } else { Reading::Wrong(at) }
+}
+
+// A sum or a sequence: the unions of the masks.
+fn both(left: Judged, right: Judged) -> Judged
+    ensures { λ r. ⌜ BothFound left right r ⌝ }
+{
+    let p = left.masks;
+    let q = right.masks;
+    let a = left.fault;
+    let b = right.fault;
+    Judged {
+        masks: Masks {
+            tests: p.tests | q.tests,
+            writes: p.writes | q.writes,
+            next: q.next,
+        },
+        fault: first_of(a, b),
+    }
+}
+
+// A concurrent part at a place writes by its own masks, also where it is not right.
+fn beside(at: usize, wp: u8, wq: u8, left: Judged, right: Judged) -> Judged
+    ensures { λ r. ⌜ BesideFound at wp wq left right r ⌝ }
+{
+    let p = left.masks;
+    let q = right.masks;
+    let a = left.fault;
+    let b = right.fault;
+    Judged {
+        masks: Masks {
+            tests: p.tests | q.tests,
+            writes: wp | wq,
+            next: q.next,
+        },
+        fault: first_at(at, right_masks(wp, wq, p, q), first_of(a, b)),
+    }
+}
+
+// Where no part stands, nothing is tested, written or wrong.
+fn nothing(at: usize) -> Judged
+    ensures { λ r. ⌜ (r .masks ≡ record { tests = 0; writes = 0; next = at }) × (r .fault ≡ Reading.Next at) ⌝ }
+{
+    Judged {
+        masks: Masks {
+            tests: 0,
+            writes: 0,
+            next: at,
+        },
+        fault: Reading::Next(at),
+    }
+}
+
+// T and M of the part at a place, at most depth deep, the place after it, and its first fault: each part is walked once.
+fn judge_part(s: &[u8], main: bool, at: usize, depth: usize) -> Judged
+    ensures { λ r. ⌜ Found (now (s .entry)) (uses (now (s .entry)) main) depth at r ⌝ }
 {
     if depth == 0 {
-        return Reading::Next(at);
+        return nothing(at);
     }
     if s.len() <= at {
-        return Reading::Next(at);
-    }
-    if !right_here(s, main, at, depth) {
-        return Reading::Wrong(at);
+        return nothing(at);
     }
     let code = s[at];
     let shape = rules::shape_of(code);
     let parts = shape.parts;
     let from = at + 1 + shape.operands;
     if parts == 0 {
-        return Reading::Next(from);
-    }
-    let left = judged(s, main, from, depth - 1);
-    let Reading::Next(middle) = left else {
-        return left;
-    };
-    if parts == 1 {
-        return Reading::Next(middle);
-    }
-    judged(s, main, middle, depth - 1)
-}
-
-// The concurrent parts of the body of entry x.
-fn judge_entry(book: &[u8], x: u8) -> Reading
-    ensures { λ r. ⌜ r ≡ judgeEntry (now (book .entry)) x ⌝ }
-{
-    if book::length_of(book, x) == 0 {
-        return Reading::Next(0);
-    }
-    judged(book, x == 0, book::body_start(book, x), 32)
-}
-
-// A body fits (R, W) if T lies in R and W together and M lies in W.
-fn fit_masks(r: u8, w: u8, p: Masks) -> bool
-    ensures { λ b. ⌜ b ≡ fitMasks r w (p .tests) (p .writes) ⌝ }
-{
-    let both = r | w;
-    if p.tests | both != both {
-        return false;
-    }
-    p.writes | w == w
-}
-
-// Does the body of entry x fit its masks?
-fn fit_entry(book: &[u8], x: u8) -> Reading
-    ensures { λ r. ⌜ r ≡ fitEntry (now (book .entry)) x ⌝ }
-{
-    if book::length_of(book, x) == 0 {
-        return Reading::Next(0);
-    }
-    let start = book::body_start(book, x);
-    let body = masks_at(book, x == 0, start, 32);
-    if fit_masks(book::reads_of(book, x), book::writes_of(book, x), body) {
-        Reading::Next(0)
-    } else {
-        Reading::Wrong(start)
-    }
-}
-
-// What turns the body of entry x away: a concurrent part that is not right; or, if so asked, that it does not fit.
-fn entry_fault(book: &[u8], x: u8, fits: bool) -> Reading
-    ensures { λ r. ⌜ r ≡ faultIn (now (book .entry)) fits x ⌝ }
-{
-    if fits {
-        fit_entry(book, x)
-    } else {
-        judge_entry(book, x)
-    }
-}
-
-// The first such body, in book order.
-fn first_fault(book: &[u8], fits: bool) -> Reading
-    ensures { λ r. ⌜ r ≡ inTurn (faultIn (now (book .entry)) fits) (suc (tablesOf (now (book .entry)))) 0 ⌝ }
-{
-    let m = book::byte_at(book, 1) as usize;
-    let mut x: usize = 0;
-    while x <= m {
-        let body = entry_fault(book, x as u8, fits);
-        let Reading::Next(a) = body else {
-            return body;
+        return Judged {
+            masks: leaf_masks(s, main, at, from),
+            fault: Reading::Next(from),
         };
-        x += 1;
+    }
+    let left = judge_part(s, main, from, depth - 1);
+    if parts == 1 {
+        return left;
+    }
+    let middle = left.masks.next;
+    let right = judge_part(s, main, middle, depth - 1);
+    if code == 7 {
+        return beside(
+            at,
+            book::byte_at(s, at + 1),
+            book::byte_at(s, at + 2),
+            left,
+            right,
+        );
+    }
+    both(left, right)
+}
+
+// A body that starts at a place fits (R, W) if T lies in R and W together and M lies in W.
+fn fit(start: usize, r: u8, w: u8, p: Masks) -> Reading
+    ensures { λ f. ⌜ f ≡ fitIf (fitMasked r w p) start ⌝ }
+{
+    let all = r | w;
+    if p.tests | all != all {
+        return Reading::Wrong(start);
+    }
+    if p.writes | w != w {
+        return Reading::Wrong(start);
     }
     Reading::Next(0)
 }
 
-// The verdict on a book: the numbers 1 to 7 in their order, or its sizes.
+// What one body has against it: a concurrent part that is not right, and that the body does not fit.
+pub struct Faults {
+    pub parts: Reading,
+    pub body: Reading,
+}
+
+// Both faults of the body of entry x; a table that is not populated has none.
+fn entry_faults(book: &[u8], x: u8) -> Faults
+    ensures { λ r. ⌜ (r .parts ≡ judgeEntry (now (book .entry)) x) × (r .body ≡ fitEntry (now (book .entry)) x) ⌝ }
+{
+    if book::length_of(book, x) == 0 {
+        return Faults {
+            parts: Reading::Next(0),
+            body: Reading::Next(0),
+        };
+    }
+    let start = book::body_start(book, x);
+    let found = judge_part(book, x == 0, start, 32);
+    let masks = found.masks;
+    let parts = found.fault;
+    let body = fit(
+        start,
+        book::reads_of(book, x),
+        book::writes_of(book, x),
+        masks,
+    );
+    Faults { parts, body }
+}
+
+// The verdict on a book: the numbers 1 to 7 in their order, or its sizes. The first wrong concurrent part ends the loop;
+// the first body that does not fit is reported only if no body has such a part.
 pub fn accept(book: &[u8]) -> Verdict
     ensures { λ r. ⌜ r ≡ verdict (now (book .entry)) ⌝ }
 {
@@ -276,12 +256,20 @@ pub fn accept(book: &[u8]) -> Verdict
     let Verdict::Accepted(sizes) = form else {
         return form;
     };
-    let parts = first_fault(book, false);
-    if let Reading::Wrong(at) = parts {
-        return Verdict::Refused(Refusal::Typing(at));
+    let m = book::byte_at(book, 1) as usize;
+    let mut unfit = Reading::Next(0);
+    let mut x: usize = 0;
+    while x <= m {
+        let faults = entry_faults(book, x as u8);
+        let parts = faults.parts;
+        let body = faults.body;
+        if let Reading::Wrong(at) = parts {
+            return Verdict::Refused(Refusal::Typing(at));
+        }
+        unfit = first_of(unfit, body);
+        x += 1;
     }
-    let bodies = first_fault(book, true);
-    if let Reading::Wrong(at) = bodies {
+    if let Reading::Wrong(at) = unfit {
         return Verdict::Refused(Refusal::Typing(at));
     }
     form
