@@ -16,6 +16,8 @@ pub mod Leaving
 pub mod Beside
 pub mod Stepping
 pub mod Refining
+pub mod Counting
+pub mod Choosing
 pub mod Playing
 pub mod Reaching
 pub mod Starting

@@ -77,6 +77,13 @@ shapes-alike : (s : List ℕ) (l : List Pos) → AllAlike (map shape l) (map nod
 shapes-alike s [] = none
 shapes-alike s (x ∷ l) = also (kind-alike s (x .phase) x) (shapes-alike s l)
 
+-- the ready ones from an index on, counted in the words or in the state that they hold
+pub count-shown : (s w : List ℕ) (live j : ℕ) → count (drop j (marks w live)) ≡ count (map node (drop j (state s w live)))
+unfolding marks state
+count-shown s w live j =
+    ap count (sym (map-drop shape j (nodes w live))) ∙ count-alike (shapes-alike s (drop j (nodes w live)))
+    ∙ ap (λ (l : List Live). count (map node l)) (map-drop (meant s) j (nodes w live))
+
 -- ---- the words hold the tree
 
 module _ (s w : List ℕ) (live : ℕ) (t : Tree) (e : state s w live ≡ flat t) where
@@ -90,7 +97,7 @@ module _ (s w : List ℕ) (live : ℕ) (t : Tree) (e : state s w live ≡ flat t
 
   -- "with r ready positions": the count over the words is the rules'
   pub ready-held : count (marks w live) ≡ ready t
-  ready-held = count-alike marks-alike ∙ nodes-ready
+  ready-held = count-shown s w live 0 ∙ ap (λ (l : List Live). count (map node l)) e ∙ nodes-ready
 
   -- the k-th ready position is there, and ready
   pub pick-held : (k : ℕ) → k < ready t → (nth k (marks w live) < length (marks w live)) × (rdL (drop (nth k (marks w live)) (marks w live)) ≡ true)

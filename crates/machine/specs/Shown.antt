@@ -9,7 +9,7 @@ use Rattle.rules.specs.Packets.{Packets, Ascending, keep, lacks}
 use Rattle.rules.specs.Parts.{Part, write, namesOpen}
 use Rattle.rules.specs.Books.{mostFields, mostBytes, mostDepth, scopeOf, Fine}
 use Rattle.rules.specs.Reading.{fieldsOf, tablesOf, bodyStart, partAt, bodyAt, useAt}
-use Rattle.rules.specs.States.{Spot, Join, entered, split, paired, join, Tree, placed, done, waiting, negated, both, place, enter, run, made as madeIn}
+use Rattle.rules.specs.States.{Spot, Join, entered, split, paired, join, Tree, placed, done, waiting, negated, both, place, enter, ready, move, run, made as madeIn}
 use Rattle.rules.proofs.Lists.{All}
 use Rattle.machine.specs.Ready.{rdL, marks}
 use Rattle.machine.specs.Area.{Pos, here, nodes, order, Wf, Becomes}
@@ -209,6 +209,19 @@ pub record Held (s w v : List ℕ) (live : ℕ) (t : Tree) : Type 0 where
   pub sound : Wf (order v)
   pub kept : drop 21760 v ≡ drop 21760 w
   pub long : length v ≡ length w
+
+-- one choice: the words hold a state of which so many positions are ready, and all that choices make of it fits
+pub record Advancing (s w : List ℕ) (live some : ℕ) : Type 0 where
+  pub readable : Readable s
+  pub tree : Tree
+  pub held : Held s w w live tree
+  pub counted : some ≡ ready tree
+  pub playable : Playable s tree
+
+-- whatever state they held, they hold what the rules make of it by the choice b, and so many positions are ready then
+pub record Advanced (s w v : List ℕ) (live live′ some b : ℕ) : Type 0 where
+  pub moved : (t : Tree) → Held s w w live t → Held s w v live′ (move b t)
+  pub counted : (t : Tree) → Held s w w live t → some ≡ ready (move b t)
 
 -- they hold the state after the run, and so many steps were made
 pub record Played (s w v : List ℕ) (live n : ℕ) (t : Tree) (bs : List ℕ) : Type 0 where

@@ -22,7 +22,7 @@ ghost use Rattle.rules.specs.Reading.{verdict};
 ghost use Rattle.machine.specs.Answered.{IsAccepted, Answered};
 ghost use Rattle.machine.specs.Area.{heads, slots, Now, turned, Pos, here, all, nodes, order, Wf, Holds, marked, given, finished, Becomes, Parts, Numbered};
 ghost use Rattle.machine.specs.Ready.{fin, rdL, count, nth, marks};
-ghost use Rattle.machine.specs.Shown.{flat, partOf, joinOf, placing, entering, Stands, Readable, Standing, StandingTwo, Entering, Leaving, Turns, Stepping, Stepped, Playable, Held, Played, Ended};
+ghost use Rattle.machine.specs.Shown.{flat, partOf, joinOf, placing, entering, Stands, Readable, Standing, StandingTwo, Entering, Leaving, Turns, Stepping, Stepped, Playable, Held, Advancing, Advanced, Played, Ended};
 ghost use Rattle.rules.specs.Packets.{keep, lacks, gathered, without, padded, valuesOf};
 ghost use Rattle.rules.specs.Masks.{less, allFields};
 ghost use Rattle.rules.specs.Working.{out};
@@ -312,20 +312,28 @@ fn ready_at(work: &[u16], live: usize, i: usize) -> bool
     p && q
 }
 
-// How many positions are ready.
-fn ready_count(work: &[u16], live: usize) -> usize
-    requires { ⌜ (live ≤ 160) × (21760 ≤ length (now work)) ⌝ }
-    ensures { λ r. ⌜ r ≡ count (marks (now (work .entry)) live) ⌝ }
+// How many of the positions from `from` on, up to `to`, are ready.
+fn ready_between(work: &[u16], live: usize, from: usize, to: usize) -> usize
+    requires { ⌜ (from ≤ to) × (to ≤ live) × (live ≤ 160) × (21760 ≤ length (now work)) ⌝ }
+    ensures { λ r. ⌜ r + count (drop to (marks (now (work .entry)) live)) ≡ count (drop from (marks (now (work .entry)) live)) ⌝ }
 {
     let mut n: usize = 0;
-    let mut i: usize = 0;
-    while i < live {
+    let mut i = from;
+    while i < to {
         if ready_at(work, live, i) {
             n += 1;
         }
         i += 1;
     }
     n
+}
+
+// How many positions are ready.
+fn ready_count(work: &[u16], live: usize) -> usize
+    requires { ⌜ (live ≤ 160) × (21760 ≤ length (now work)) ⌝ }
+    ensures { λ r. ⌜ r ≡ count (marks (now (work .entry)) live) ⌝ }
+{
+    ready_between(work, live, 0, live)
 }
 
 // The index of the ready position numbered `k` from the left.
@@ -685,30 +693,98 @@ fn step(book: &[u8], work: &mut [u16], live: usize, i: usize) -> usize
     leave_both(book, work, live, i)
 }
 
+// Live positions, and the ready ones among them.
+struct Tally {
+    live: usize,
+    ready: usize,
+}
+
+// The index two before i, or 0.
+fn two_before(i: usize) -> usize
+    ensures { λ r. ⌜ r ≡ i - 2 ⌝ }
+{
+    if i < 2 { 0 } else { i - 2 }
+}
+
+// How many are ready from two before i on, but for the last `tail` positions.
+fn ready_near(work: &[u16], live: usize, i: usize, tail: usize) -> usize
+    requires { ⌜ (i + tail ≤ live) × (live ≤ 160) × (21760 ≤ length (now work)) ⌝ }
+    ensures { λ r. ⌜ r + count (drop (live - tail) (marks (now (work .entry)) live))
+        ≡ count (drop (i - 2) (marks (now (work .entry)) live)) ⌝ }
+{
+    let from = two_before(i);
+    ready_between(work, live, from, live - tail)
+}
+
+// How many positions come after i and the two next to it: a step at i leaves these as they are.
+fn left_alone(live: usize, i: usize) -> usize
+    requires { ⌜ live ≤ 160 ⌝ }
+    ensures { λ r. ⌜ r ≡ live - (i + 3) ⌝ }
+{
+    if live < 3 {
+        return 0;
+    }
+    if live - 3 < i { 0 } else { live - 3 - i }
+}
+
+// The step at the ready position i, with the ready positions kept: a step at i can change i and the two after it,
+// and with them the readiness of the two before; only these are counted again.
+fn step_counted(book: &[u8], work: &mut [u16], c: Tally, i: usize) -> Tally
+    requires { ⌜ Stepping (now book) (now work) (c .live) i × (c .ready ≡ count (marks (now work) (c .live))) ⌝ }
+    ensures { λ r. ⌜ Stepped (now (book .entry)) (now (work .entry)) (now (work .exit)) (c .live) (r .live) i
+        × (r .ready ≡ count (marks (now (work .exit)) (r .live))) ⌝ }
+{
+    let tail = left_alone(c.live, i);
+    let old = ready_near(work, c.live, i, tail);
+    let live = step(book, work, c.live, i);
+    let new = ready_near(work, live, i, tail);
+    let ready = c.ready + new - old;
+    Tally { live, ready }
+}
+
+// One choice: byte b picks among the ready positions, from the left, and the step there is made; a finished state stays.
+fn advance(book: &[u8], work: &mut [u16], c: Tally, b: u8) -> Tally
+    requires { ⌜ Advancing (now book) (now work) (c .live) (c .ready) ⌝ }
+    ensures { λ r. ⌜ Advanced (now (book .entry)) (now (work .entry)) (now (work .exit)) (c .live) (r .live) (r .ready) b ⌝ }
+{
+    let ready = c.ready;
+    if ready == 0 {
+        return c;
+    }
+    let i = nth_ready(work, c.live, b as usize % ready);
+    step_counted(book, work, c, i)
+}
+
 // Steps made, and live positions then.
 struct Count {
     steps: usize,
     live: usize,
 }
 
-// The schedule's bytes in order, each a step at the position that it picks, until nothing is ready.
+// The schedule's bytes in order, each a choice, until nothing is ready.
 fn play(book: &[u8], packet: &[u16], schedule: &[u8], work: &mut [u16], first: usize) -> Count
     requires { ⌜ Readable (now book) × Playable (now book) (start (now book) (now packet)) × Held (now book) (now work) (now work) first (start (now book) (now packet)) ⌝ }
     ensures { λ r. ⌜ Played (now (book .entry)) (now (work .entry)) (now (work .exit)) (r .live) (r .steps) (start (now (book .entry)) (now (packet .entry))) (now (schedule .entry)) ⌝ }
 {
-    let mut live = first;
+    let mut c = Tally {
+        live: first,
+        ready: ready_count(work, first),
+    };
     let mut n: usize = 0;
     while n < schedule.len() {
-        let r = ready_count(work, live);
-        if r == 0 {
-            return Count { steps: n, live };
+        if c.ready == 0 {
+            return Count {
+                steps: n,
+                live: c.live,
+            };
         }
-        let b = schedule[n] as usize;
-        let i = nth_ready(work, live, b % r);
-        live = step(book, work, live, i);
+        c = advance(book, work, c, schedule[n]);
         n += 1;
     }
-    Count { steps: n, live }
+    Count {
+        steps: n,
+        live: c.live,
+    }
 }
 
 // A slot for each header.

@@ -3,7 +3,7 @@ use denote.Ref.{now}
 use mathlib.Core.Path.{_∙_}
 use native.Mathlib.Omega.{arith}
 use Rattle.machine.proofs.Ending.{cleared}
-use Rattle.machine.proofs.Playing.{held-now}
+use Rattle.machine.proofs.Choosing.{held-now}
 use Rattle.machine.proofs.conduct.Statement.{statement}
 use Rattle.machine.proofs.conduct.Tie as tie
 
