@@ -2,4 +2,5 @@
 pub mod Area
 pub mod Ready
 pub mod Shown
+pub mod Made
 pub mod Answered

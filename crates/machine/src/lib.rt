@@ -14,22 +14,23 @@ ghost use mathlib.Core.Bool.{true};
 ghost use Prim.Native.Nat.{ℕ, _+_, _-_, _*_, _≤_, _<_};
 ghost use lib.ListN.{length, drop, take, getD, replicate, set};
 ghost use lib.Seq.{paste};
-ghost use Rattle.rules.specs.Packets.{Ascending};
+ghost use Rattle.rules.specs.Masks.{allFields};
+ghost use Rattle.rules.specs.Packets.{Ascending, padded};
+ghost use Rattle.rules.specs.Reading.{after, numberAt, bodyStart, fieldsOf};
+ghost use Rattle.rules.specs.Working.{out};
+ghost use Rattle.rules.specs.States.{join};
+ghost use Rattle.rules.specs.Answers.{start, resultRun, overwritten, ran, ranResult, ranArea};
 ghost use Rattle.packets.specs.Rows.{rows, Is, Whole};
 ghost use Rattle.packets.specs.Arrays.{eightAt, storedAt};
-ghost use Rattle.rules.specs.Reading.{after, numberAt, bodyStart, fieldsOf};
-ghost use Rattle.rules.specs.Reading.{verdict};
-ghost use Rattle.machine.specs.Answered.{IsAccepted, Answered};
-ghost use Rattle.machine.specs.Area.{heads, slots, Now, turned, Pos, here, all, nodes, order, Wf, Holds, marked, given, finished, Becomes, Parts, Numbered};
+ghost use Rattle.machine.specs.Area.{heads, slots, Now, turned, here, all, order, Wf, Holds};
+ghost use Rattle.machine.specs.Area.{marked, given, finished, Becomes, Parts, Numbered};
 ghost use Rattle.machine.specs.Ready.{fin, rdL, count, nth, marks};
-ghost use Rattle.machine.specs.Shown.{flat, partOf, joinOf, placing, entering, Stands, Readable, Standing, StandingTwo, Entering, Leaving, Turns, Stepping, Stepped, Playable, Held, Advancing, Advanced, Played, Ended};
-ghost use Rattle.rules.specs.Packets.{keep, lacks, gathered, without, padded, valuesOf};
-ghost use Rattle.rules.specs.Masks.{less, allFields};
-ghost use Rattle.rules.specs.Working.{out};
-ghost use Rattle.rules.specs.States.{join, place};
-ghost use Rattle.rules.specs.Answers.{start, stopped, finalOf, resultRun, overwritten, ran, ranResult, ranArea};
-ghost use Rattle.rules.specs.States.{finish as finishOf, run as runOf, made as madeIn};
-ghost use mathlib.Core.List.{map};
+ghost use Rattle.machine.specs.Shown.{flat, partOf, joinOf, placing, Stands, Readable};
+ghost use Rattle.machine.specs.Shown.{Standing, StandingTwo, Entering, Leaving, Turns, Stepping, Stepped};
+ghost use Rattle.machine.specs.Shown.{Playable, Held, Advancing, Advanced, Played, Ended};
+ghost use Rattle.machine.specs.Made.{Puts, Entered, Settled, seqOf, notOf, sumOf, sidesOf};
+ghost use Rattle.machine.specs.Made.{nextOf, notLeft, joinedOf, bothLeft};
+ghost use Rattle.machine.specs.Answered.{IsAccepted, Answered, stopOf, wordsOf};
 
 // The eight words at b.
 fn read8(work: &[u16], b: usize) -> [u16; 8]
@@ -174,7 +175,7 @@ fn close_two(work: &mut [u16], live: usize, p: usize)
 // Another place, phase and mask for position i; its set stays.
 fn mark(work: &mut [u16], i: usize, place: u16, phase: u16, mask: u8)
     requires { ⌜ (i < 160) × (21760 ≤ length (now work)) × Wf (order (now work)) ⌝ }
-    ensures { λ _. ⌜ Holds (now (work .entry)) (now (work .exit)) (set (all (now (work .entry))) i (marked (here (now (work .entry)) i) place phase mask)) ⌝ }
+    ensures { λ _. ⌜ Puts (now (work .entry)) (now (work .exit)) i (marked (here (now (work .entry)) i) place phase mask) ⌝ }
 {
     let h = head(work, i);
     put_head(work, i, [place, phase, mask as u16, h[3], h[4], 0, 0, 0]);
@@ -231,7 +232,8 @@ fn count_at(work: &[u16], i: usize) -> usize
 
 // The set of position i.
 fn get_set(work: &[u16], i: usize) -> PacketSet
-    requires { ⌜ (i < 160) × (21760 ≤ length (now work)) × Wf (order (now work)) × (length (here (now work) i .rows) ≤ 16) × Ascending (here (now work) i .rows) ⌝ }
+    requires { ⌜ (i < 160) × (21760 ≤ length (now work)) × Wf (order (now work)) × (length (here (now work) i .rows) ≤ 16)
+        × Ascending (here (now work) i .rows) ⌝ }
     ensures { λ r. ⌜ Is r (here (now (work .entry)) i .mask) (here (now (work .entry)) i .rows) ⌝ }
 {
     let at = slot_at(work, i);
@@ -248,7 +250,7 @@ fn get_set(work: &[u16], i: usize) -> PacketSet
 // Another set for position i; only as many values are written as it has.
 fn put_set(work: &mut [u16], i: usize, s: PacketSet)
     requires { ⌜ (i < 160) × (21760 ≤ length (now work)) × Wf (order (now work)) × Whole s ⌝ }
-    ensures { λ _. ⌜ Holds (now (work .entry)) (now (work .exit)) (set (all (now (work .entry))) i (given (here (now (work .entry)) i) (rows s))) ⌝ }
+    ensures { λ _. ⌜ Puts (now (work .entry)) (now (work .exit)) i (given (here (now (work .entry)) i) (rows s)) ⌝ }
 {
     let h = head(work, i);
     let at = slot_at(work, i);
@@ -260,8 +262,10 @@ fn put_set(work: &mut [u16], i: usize, s: PacketSet)
 
 // The packets of position i from number k on put at position j too.
 fn copy_set(work: &mut [u16], i: usize, j: usize, k: usize)
-    requires { ⌜ (i < 160) × (j < 160) × (21760 ≤ length (now work)) × Wf (order (now work)) × (length (here (now work) i .rows) ≤ 16) × (k ≤ length (here (now work) i .rows)) ⌝ }
-    ensures { λ _. ⌜ Holds (now (work .entry)) (now (work .exit)) (set (all (now (work .entry))) j (given (here (now (work .entry)) j) (drop k (here (now (work .entry)) i .rows)))) ⌝ }
+    requires { ⌜ (i < 160) × (j < 160) × (21760 ≤ length (now work)) × Wf (order (now work)) × (length (here (now work) i .rows) ≤ 16)
+        × (k ≤ length (here (now work) i .rows)) ⌝ }
+    ensures { λ _. ⌜ Puts (now (work .entry)) (now (work .exit)) j
+        (given (here (now (work .entry)) j) (drop k (here (now (work .entry)) i .rows))) ⌝ }
 {
     let g = head(work, j);
     let from = slot_at(work, i);
@@ -275,7 +279,8 @@ fn copy_set(work: &mut [u16], i: usize, j: usize, k: usize)
 // Only the first packet of position i kept.
 fn keep_first(work: &mut [u16], i: usize)
     requires { ⌜ (i < 160) × (21760 ≤ length (now work)) × Wf (order (now work)) × (1 ≤ length (here (now work) i .rows)) ⌝ }
-    ensures { λ _. ⌜ Holds (now (work .entry)) (now (work .exit)) (set (all (now (work .entry))) i (given (here (now (work .entry)) i) (take 1 (here (now (work .entry)) i .rows)))) ⌝ }
+    ensures { λ _. ⌜ Puts (now (work .entry)) (now (work .exit)) i
+        (given (here (now (work .entry)) i) (take 1 (here (now (work .entry)) i .rows))) ⌝ }
 {
     let h = head(work, i);
     put_head(work, i, [h[0], h[1], h[2], 1, h[4], 0, 0, 0]);
@@ -383,7 +388,7 @@ fn phase_at(work: &[u16], i: usize) -> u16
 // Position i finished with a set.
 fn finish(work: &mut [u16], i: usize, s: PacketSet)
     requires { ⌜ (i < 160) × (21760 ≤ length (now work)) × Wf (order (now work)) × Whole s ⌝ }
-    ensures { λ _. ⌜ Holds (now (work .entry)) (now (work .exit)) (set (all (now (work .entry))) i (finished (here (now (work .entry)) i) (rows s))) ⌝ }
+    ensures { λ _. ⌜ Puts (now (work .entry)) (now (work .exit)) i (finished (here (now (work .entry)) i) (rows s)) ⌝ }
 {
     let o = spot_at(work, i);
     put_set(work, i, s);
@@ -395,8 +400,7 @@ fn split_seq(book: &[u8], work: &mut [u16], live: usize, i: usize)
     requires { ⌜ (i < live) × (live + 1 ≤ 160) × (21760 ≤ length (now work)) × Wf (order (now work)) ⌝ }
     requires { ⌜ (here (now work) i .place + 1 < 65536) × (after (now book) 32 (here (now work) i .place + 1) < 65536) ⌝ }
     ensures { λ _. ⌜ Becomes (now (work .entry)) (now (work .exit)) live (live + 1) i 1
-        (marked (here (now (work .entry)) live) (after (now (book .entry)) 32 (here (now (work .entry)) i .place + 1)) 2 (here (now (work .entry)) i .mask)
-        ∷ marked (here (now (work .entry)) i) (here (now (work .entry)) i .place + 1) 0 (here (now (work .entry)) i .mask) ∷ []) ⌝ }
+        (seqOf (now (book .entry)) (here (now (work .entry)) i) (here (now (work .entry)) live)) ⌝ }
 {
     let o = spot_at(work, i);
     let at = o.place + 1;
@@ -409,7 +413,7 @@ fn split_seq(book: &[u8], work: &mut [u16], live: usize, i: usize)
 // The part placed at position i settled: id is finished, a sequence gets its position below. Gives the live positions then.
 fn settle(book: &[u8], work: &mut [u16], live: usize, i: usize) -> usize
     requires { ⌜ Standing (now book) (now work) live i (placing (now book) (here (now work) i)) ⌝ }
-    ensures { λ r. ⌜ Turns (now (book .entry)) (now (work .entry)) (now (work .exit)) live r i 1 (flat (placing (now (book .entry)) (here (now (work .entry)) i))) ⌝ }
+    ensures { λ r. ⌜ Settled (now (book .entry)) (now (work .entry)) (now (work .exit)) live r i ⌝ }
 {
     let o = spot_at(work, i);
     let code = book::byte_at(book, o.place as usize);
@@ -427,7 +431,8 @@ fn settle(book: &[u8], work: &mut [u16], live: usize, i: usize) -> usize
 fn settle_two(book: &[u8], work: &mut [u16], live: usize, i: usize) -> usize
     requires { ⌜ StandingTwo (now book) (now work) live i ⌝ }
     ensures { λ r. ⌜ Turns (now (book .entry)) (now (work .entry)) (now (work .exit)) live r (i + 1) 2
-        (flat (placing (now (book .entry)) (here (now (work .entry)) (i + 1))) ++ flat (placing (now (book .entry)) (here (now (work .entry)) (i + 2)))) ⌝ }
+        (flat (placing (now (book .entry)) (here (now (work .entry)) (i + 1)))
+        ++ flat (placing (now (book .entry)) (here (now (work .entry)) (i + 2)))) ⌝ }
 {
     let l = settle(book, work, live, i + 2);
     settle(book, work, l, i + 1)
@@ -460,7 +465,7 @@ fn leaf(book: &[u8], at: usize, code: u8, s: PacketSet) -> PacketSet
 // The step of a placed drop, test or set.
 fn enter_leaf(book: &[u8], work: &mut [u16], live: usize, i: usize, code: u8) -> usize
     requires { ⌜ Entering (now book) (now work) live i code × (0 < code) × (code < 4) ⌝ }
-    ensures { λ r. ⌜ Turns (now (book .entry)) (now (work .entry)) (now (work .exit)) live r i 1 (flat (entering (now (book .entry)) (here (now (work .entry)) i))) ⌝ }
+    ensures { λ r. ⌜ Entered (now (book .entry)) (now (work .entry)) (now (work .exit)) live r i ⌝ }
 {
     let o = spot_at(work, i);
     let s = get_set(work, i);
@@ -474,7 +479,7 @@ fn split_not(work: &mut [u16], live: usize, i: usize)
     requires { ⌜ (i < live) × (live + 1 ≤ 160) × (21760 ≤ length (now work)) × Wf (order (now work)) ⌝ }
     requires { ⌜ (here (now work) i .place + 1 < 65536) × (length (here (now work) i .rows) ≤ 16) ⌝ }
     ensures { λ _. ⌜ Becomes (now (work .entry)) (now (work .exit)) live (live + 1) i 1
-        (marked (given (here (now (work .entry)) live) ((here (now (work .entry)) i) .rows)) ((here (now (work .entry)) i) .place) 3 ((here (now (work .entry)) i) .mask) ∷ marked (here (now (work .entry)) i) ((here (now (work .entry)) i) .place + 1) 0 ((here (now (work .entry)) i) .mask) ∷ []) ⌝ }
+        (notOf (here (now (work .entry)) i) (here (now (work .entry)) live)) ⌝ }
 {
     let o = spot_at(work, i);
     open_one(work, live, i);
@@ -485,7 +490,7 @@ fn split_not(work: &mut [u16], live: usize, i: usize)
 
 fn enter_not(book: &[u8], work: &mut [u16], live: usize, i: usize) -> usize
     requires { ⌜ Entering (now book) (now work) live i 4 ⌝ }
-    ensures { λ r. ⌜ Turns (now (book .entry)) (now (work .entry)) (now (work .exit)) live r i 1 (flat (entering (now (book .entry)) (here (now (work .entry)) i))) ⌝ }
+    ensures { λ r. ⌜ Entered (now (book .entry)) (now (work .entry)) (now (work .exit)) live r i ⌝ }
 {
     split_not(work, live, i);
     settle(book, work, live + 1, i + 1)
@@ -493,11 +498,11 @@ fn enter_not(book: &[u8], work: &mut [u16], live: usize, i: usize) -> usize
 
 // p + q: two positions opened before i; p and q are placed on its set, not yet settled.
 fn split_sum(book: &[u8], work: &mut [u16], live: usize, i: usize)
-    requires { ⌜ (i < live) × (live + 2 ≤ 160) × (21760 ≤ length (now work)) × Wf (order (now work)) × (length (here (now work) i .rows) ≤ 16) ⌝ }
+    requires { ⌜ (i < live) × (live + 2 ≤ 160) × (21760 ≤ length (now work)) × Wf (order (now work))
+        × (length (here (now work) i .rows) ≤ 16) ⌝ }
     requires { ⌜ (here (now work) i .place + 1 < 65536) × (after (now book) 32 (here (now work) i .place + 1) < 65536) ⌝ }
     ensures { λ _. ⌜ Becomes (now (work .entry)) (now (work .exit)) live (live + 2) i 1
-        (marked (here (now (work .entry)) live) ((here (now (work .entry)) i) .place) 4 ((here (now (work .entry)) i) .mask) ∷ marked (given (here (now (work .entry)) (live + 1)) ((here (now (work .entry)) i) .rows)) ((here (now (work .entry)) i) .place + 1) 0 ((here (now (work .entry)) i) .mask)
-        ∷ marked (here (now (work .entry)) i) (after (now (book .entry)) 32 ((here (now (work .entry)) i) .place + 1)) 0 ((here (now (work .entry)) i) .mask) ∷ []) ⌝ }
+        (sumOf (now (book .entry)) (here (now (work .entry)) i) (here (now (work .entry)) live) (here (now (work .entry)) (live + 1))) ⌝ }
 {
     let o = spot_at(work, i);
     let at = o.place + 1;
@@ -511,7 +516,7 @@ fn split_sum(book: &[u8], work: &mut [u16], live: usize, i: usize)
 
 fn enter_sum(book: &[u8], work: &mut [u16], live: usize, i: usize) -> usize
     requires { ⌜ Entering (now book) (now work) live i 5 ⌝ }
-    ensures { λ r. ⌜ Turns (now (book .entry)) (now (work .entry)) (now (work .exit)) live r i 1 (flat (entering (now (book .entry)) (here (now (work .entry)) i))) ⌝ }
+    ensures { λ r. ⌜ Entered (now (book .entry)) (now (work .entry)) (now (work .exit)) live r i ⌝ }
 {
     split_sum(book, work, live, i);
     settle_two(book, work, live + 2, i)
@@ -520,8 +525,9 @@ fn enter_sum(book: &[u8], work: &mut [u16], live: usize, i: usize) -> usize
 // p ; q where p is finished: q on p's set, in the sequence's own position.
 fn take_next(book: &[u8], work: &mut [u16], live: usize, i: usize) -> usize
     requires { ⌜ Leaving (now work) live i 1 [] × Stands (now book) (here (now work) i .place) × (length (now book) ≤ 4096) ⌝ }
-    requires { ⌜ live + length (flat (placing (now book) (given (here (now work) i) (here (now work) (i + 1) .rows)))) ≤ 162 ⌝ }
-    ensures { λ r. ⌜ Turns (now (book .entry)) (now (work .entry)) (now (work .exit)) live r i 2 (flat (placing (now (book .entry)) (given (here (now (work .entry)) i) (here (now (work .entry)) (i + 1) .rows)))) ⌝ }
+    requires { ⌜ live + length (flat (nextOf (now book) (now work) i)) ≤ 162 ⌝ }
+    ensures { λ r. ⌜ Turns (now (book .entry)) (now (work .entry)) (now (work .exit)) live r i 2
+        (flat (nextOf (now (book .entry)) (now (work .entry)) i)) ⌝ }
 {
     let o = spot_at(work, i);
     close_one(work, live, i);
@@ -532,7 +538,7 @@ fn take_next(book: &[u8], work: &mut [u16], live: usize, i: usize) -> usize
 // not a where a is finished: the kept packets that a did not give.
 fn leave_not(work: &mut [u16], live: usize, i: usize) -> usize
     requires { ⌜ Leaving (now work) live i 1 [] × (length (here (now work) i .rows) ≤ 16) × Ascending (here (now work) i .rows) ⌝ }
-    ensures { λ r. ⌜ Becomes (now (work .entry)) (now (work .exit)) live r i 2 (finished (here (now (work .entry)) i) (keep (lacks (here (now (work .entry)) (i + 1) .rows)) ((here (now (work .entry)) i) .rows)) ∷ []) ⌝ }
+    ensures { λ r. ⌜ Becomes (now (work .entry)) (now (work .exit)) live r i 2 (notLeft (now (work .entry)) i ∷ []) ⌝ }
 {
     let k = get_set(work, i);
     let a = get_set(work, i + 1);
@@ -544,7 +550,8 @@ fn leave_not(work: &mut [u16], live: usize, i: usize) -> usize
 
 // The set that two finished positions leave, by the phase above them.
 fn joined(book: &[u8], at: usize, phase: u16, a: PacketSet, b: PacketSet) -> PacketSet
-    requires { ⌜ (at < 65536) × (4 ≤ phase) × Whole a × Whole b × (length (join (joinOf (now book) (phase - 4) at) (rows a) (rows b)) ≤ 16) ⌝ }
+    requires { ⌜ (at < 65536) × (4 ≤ phase) × Whole a × Whole b
+        × (length (join (joinOf (now book) (phase - 4) at) (rows a) (rows b)) ≤ 16) ⌝ }
     ensures { λ r. ⌜ Whole r × (rows r ≡ join (joinOf (now (book .entry)) (phase - 4) at) (rows a) (rows b)) ⌝ }
 {
     if phase < 6 {
@@ -558,9 +565,10 @@ fn joined(book: &[u8], at: usize, phase: u16, a: PacketSet, b: PacketSet) -> Pac
 
 // p + q, a split or the two sides of a concurrent part, where both are finished.
 fn leave_both(book: &[u8], work: &mut [u16], live: usize, i: usize) -> usize
-    requires { ⌜ Leaving (now work) live i 2 (join (joinOf (now book) (here (now work) i .phase - 4) (here (now work) i .place)) (here (now work) (i + 1) .rows) (here (now work) (i + 2) .rows)) ⌝ }
-    requires { ⌜ (4 ≤ here (now work) i .phase) × (length (here (now work) (i + 2) .rows) ≤ 16) × Ascending (here (now work) (i + 2) .rows) ⌝ }
-    ensures { λ r. ⌜ Becomes (now (work .entry)) (now (work .exit)) live r i 3 (finished (here (now (work .entry)) i) (join (joinOf (now (book .entry)) ((here (now (work .entry)) i) .phase - 4) ((here (now (work .entry)) i) .place)) (here (now (work .entry)) (i + 1) .rows) (here (now (work .entry)) (i + 2) .rows)) ∷ []) ⌝ }
+    requires { ⌜ Leaving (now work) live i 2 (joinedOf (now book) (now work) i) ⌝ }
+    requires { ⌜ (4 ≤ here (now work) i .phase) × (length (here (now work) (i + 2) .rows) ≤ 16)
+        × Ascending (here (now work) (i + 2) .rows) ⌝ }
+    ensures { λ r. ⌜ Becomes (now (work .entry)) (now (work .exit)) live r i 3 (bothLeft (now (book .entry)) (now (work .entry)) i ∷ []) ⌝ }
 {
     let a = get_set(work, i + 1);
     let b = get_set(work, i + 2);
@@ -575,7 +583,7 @@ fn leave_both(book: &[u8], work: &mut [u16], live: usize, i: usize) -> usize
 // A use of a table: its body put there.
 fn enter_table(book: &[u8], work: &mut [u16], live: usize, i: usize) -> usize
     requires { ⌜ Entering (now book) (now work) live i 8 ⌝ }
-    ensures { λ r. ⌜ Turns (now (book .entry)) (now (work .entry)) (now (work .exit)) live r i 1 (flat (entering (now (book .entry)) (here (now (work .entry)) i))) ⌝ }
+    ensures { λ r. ⌜ Entered (now (book .entry)) (now (work .entry)) (now (work .exit)) live r i ⌝ }
 {
     let o = spot_at(work, i);
     let x = book::byte_at(book, o.place as usize + 1);
@@ -585,12 +593,11 @@ fn enter_table(book: &[u8], work: &mut [u16], live: usize, i: usize) -> usize
 }
 // p beside q on one packet: two positions opened before i; p is placed without the fields Wq, q without Wp, not yet settled.
 fn split_sides(book: &[u8], work: &mut [u16], live: usize, i: usize)
-    requires { ⌜ (i < live) × (live + 2 ≤ 160) × (21760 ≤ length (now work)) × Wf (order (now work)) × (length (here (now work) i .rows) ≤ 16) × Ascending (here (now work) i .rows) ⌝ }
+    requires { ⌜ (i < live) × (live + 2 ≤ 160) × (21760 ≤ length (now work)) × Wf (order (now work))
+        × (length (here (now work) i .rows) ≤ 16) × Ascending (here (now work) i .rows) ⌝ }
     requires { ⌜ (here (now work) i .place + 3 < 65536) × (after (now book) 32 (here (now work) i .place + 3) < 65536) ⌝ }
     ensures { λ _. ⌜ Becomes (now (work .entry)) (now (work .exit)) live (live + 2) i 1
-        (marked (here (now (work .entry)) live) ((here (now (work .entry)) i) .place) 6 ((here (now (work .entry)) i) .mask)
-        ∷ marked (given (here (now (work .entry)) (live + 1)) (gathered (map (without (getD (now (book .entry)) ((here (now (work .entry)) i) .place + 2) 0)) ((here (now (work .entry)) i) .rows)))) ((here (now (work .entry)) i) .place + 3) 0 (less ((here (now (work .entry)) i) .mask) (getD (now (book .entry)) ((here (now (work .entry)) i) .place + 2) 0))
-        ∷ marked (given (here (now (work .entry)) i) (gathered (map (without (getD (now (book .entry)) ((here (now (work .entry)) i) .place + 1) 0)) ((here (now (work .entry)) i) .rows)))) (after (now (book .entry)) 32 ((here (now (work .entry)) i) .place + 3)) 0 (less ((here (now (work .entry)) i) .mask) (getD (now (book .entry)) ((here (now (work .entry)) i) .place + 1) 0)) ∷ []) ⌝ }
+        (sidesOf (now (book .entry)) (here (now (work .entry)) i) (here (now (work .entry)) live) (here (now (work .entry)) (live + 1))) ⌝ }
 {
     let o = spot_at(work, i);
     let at = o.place as usize;
@@ -608,7 +615,7 @@ fn split_sides(book: &[u8], work: &mut [u16], live: usize, i: usize)
 
 fn enter_sides(book: &[u8], work: &mut [u16], live: usize, i: usize) -> usize
     requires { ⌜ Entering (now book) (now work) live i 7 × (length (here (now work) i .rows) ≡ 1) ⌝ }
-    ensures { λ r. ⌜ Turns (now (book .entry)) (now (work .entry)) (now (work .exit)) live r i 1 (flat (entering (now (book .entry)) (here (now (work .entry)) i))) ⌝ }
+    ensures { λ r. ⌜ Entered (now (book .entry)) (now (work .entry)) (now (work .exit)) live r i ⌝ }
 {
     split_sides(book, work, live, i);
     settle_two(book, work, live + 2, i)
@@ -616,7 +623,8 @@ fn enter_sides(book: &[u8], work: &mut [u16], live: usize, i: usize) -> usize
 
 // p beside q on more packets: the lowest and the rest, each under this same part.
 fn split_packets(work: &mut [u16], live: usize, i: usize)
-    requires { ⌜ (i < live) × (live + 2 ≤ 160) × (21760 ≤ length (now work)) × Wf (order (now work)) × (length (here (now work) i .rows) ≤ 16) × (1 ≤ length (here (now work) i .rows)) ⌝ }
+    requires { ⌜ (i < live) × (live + 2 ≤ 160) × (21760 ≤ length (now work)) × Wf (order (now work))
+        × (length (here (now work) i .rows) ≤ 16) × (1 ≤ length (here (now work) i .rows)) ⌝ }
     ensures { λ _. ⌜ Parts (now (work .entry)) (now (work .exit)) live i ⌝ }
 {
     let o = spot_at(work, i);
@@ -632,7 +640,7 @@ fn split_packets(work: &mut [u16], live: usize, i: usize)
 // p beside q: on no packet finished with none, on one its sides entered, on more a split.
 fn enter_beside(book: &[u8], work: &mut [u16], live: usize, i: usize) -> usize
     requires { ⌜ Entering (now book) (now work) live i 7 ⌝ }
-    ensures { λ r. ⌜ Turns (now (book .entry)) (now (work .entry)) (now (work .exit)) live r i 1 (flat (entering (now (book .entry)) (here (now (work .entry)) i))) ⌝ }
+    ensures { λ r. ⌜ Entered (now (book .entry)) (now (work .entry)) (now (work .exit)) live r i ⌝ }
 {
     let n = count_at(work, i);
     if n == 1 {
@@ -650,7 +658,7 @@ fn enter_beside(book: &[u8], work: &mut [u16], live: usize, i: usize) -> usize
 // The step at the placed part of position i. Id and a sequence are never left placed; here they go on to what placing makes of them.
 fn enter(book: &[u8], work: &mut [u16], live: usize, i: usize) -> usize
     requires { ⌜ Entering (now book) (now work) live i (getD (now book) (here (now work) i .place) 0) ⌝ }
-    ensures { λ r. ⌜ Turns (now (book .entry)) (now (work .entry)) (now (work .exit)) live r i 1 (flat (entering (now (book .entry)) (here (now (work .entry)) i))) ⌝ }
+    ensures { λ r. ⌜ Entered (now (book .entry)) (now (work .entry)) (now (work .exit)) live r i ⌝ }
 {
     let o = spot_at(work, i);
     let code = book::byte_at(book, o.place as usize);
@@ -763,8 +771,10 @@ struct Count {
 
 // The schedule's bytes in order, each a choice, until nothing is ready.
 fn play(book: &[u8], packet: &[u16], schedule: &[u8], work: &mut [u16], first: usize) -> Count
-    requires { ⌜ Readable (now book) × Playable (now book) (start (now book) (now packet)) × Held (now book) (now work) (now work) first (start (now book) (now packet)) ⌝ }
-    ensures { λ r. ⌜ Played (now (book .entry)) (now (work .entry)) (now (work .exit)) (r .live) (r .steps) (start (now (book .entry)) (now (packet .entry))) (now (schedule .entry)) ⌝ }
+    requires { ⌜ Readable (now book) × Playable (now book) (start (now book) (now packet))
+        × Held (now book) (now work) (now work) first (start (now book) (now packet)) ⌝ }
+    ensures { λ r. ⌜ Played (now (book .entry)) (now (work .entry)) (now (work .exit)) (r .live) (r .steps)
+        (start (now (book .entry)) (now (packet .entry))) (now (schedule .entry)) ⌝ }
 {
     let mut c = Tally {
         live: first,
@@ -847,8 +857,9 @@ fn answer(
 ) -> Ran
     requires { ⌜ Playable (now book) (start (now book) (now packet)) × (16 * fieldsOf (now book) ≤ length (now result)) ⌝ }
     requires { ⌜ Ended (now book) (now work) (c .live) (c .steps) (start (now book) (now packet)) (now schedule) ⌝ }
-    ensures { λ r. ⌜ (r ≡ stopped (madeIn (start (now (book .entry)) (now (packet .entry))) (now (schedule .entry))) (runOf (start (now (book .entry)) (now (packet .entry))) (now (schedule .entry))) (finishOf (runOf (start (now (book .entry)) (now (packet .entry))) (now (schedule .entry)))))
-        × (now (result .exit) ≡ resultRun r (valuesOf (fieldsOf (now (book .entry))) (finalOf (finishOf (runOf (start (now (book .entry)) (now (packet .entry))) (now (schedule .entry)))))) (now (result .entry))) ⌝ }
+    ensures { λ r. ⌜ (r ≡ stopOf (now (book .entry)) (now (packet .entry)) (now (schedule .entry)))
+        × (now (result .exit) ≡ resultRun r
+        (wordsOf (now (book .entry)) (now (packet .entry)) (now (schedule .entry))) (now (result .entry))) ⌝ }
 {
     let n = ready_count(work, c.live);
     if n == 0 {
@@ -877,8 +888,9 @@ fn conduct(
 ) -> Ran
     requires { ⌜ Readable (now book) × Stands (now book) (bodyStart (now book) 0) × Playable (now book) (start (now book) (now packet)) ⌝ }
     requires { ⌜ (21760 ≤ length (now work)) × (length (now packet) ≤ 8) × (16 * fieldsOf (now book) ≤ length (now result)) ⌝ }
-    ensures { λ r. ⌜ (r ≡ stopped (madeIn (start (now (book .entry)) (now (packet .entry))) (now (schedule .entry))) (runOf (start (now (book .entry)) (now (packet .entry))) (now (schedule .entry))) (finishOf (runOf (start (now (book .entry)) (now (packet .entry))) (now (schedule .entry)))))
-        × (now (result .exit) ≡ resultRun r (valuesOf (fieldsOf (now (book .entry))) (finalOf (finishOf (runOf (start (now (book .entry)) (now (packet .entry))) (now (schedule .entry)))))) (now (result .entry)))
+    ensures { λ r. ⌜ (r ≡ stopOf (now (book .entry)) (now (packet .entry)) (now (schedule .entry)))
+        × (now (result .exit) ≡ resultRun r
+        (wordsOf (now (book .entry)) (now (packet .entry)) (now (schedule .entry))) (now (result .entry)))
         × (now (work .exit) ≡ overwritten (replicate 21760 0) (now (work .entry))) ⌝ }
 {
     let first = set_up(book, packet, work);
@@ -896,8 +908,10 @@ fn run_admitted(
     result: &mut [u16],
     work: &mut [u16],
 ) -> Ran
-    requires { ⌜ IsAccepted (now book) × (length (now packet) ≡ fieldsOf (now book)) × (16 * fieldsOf (now book) ≤ length (now result)) × (21760 ≤ length (now work)) ⌝ }
-    ensures { λ r. ⌜ Answered (now (book .entry)) (now (packet .entry)) (now (schedule .entry)) (now (result .entry)) (now (work .entry)) r (now (result .exit)) (now (work .exit)) ⌝ }
+    requires { ⌜ IsAccepted (now book) × (length (now packet) ≡ fieldsOf (now book)) × (16 * fieldsOf (now book) ≤ length (now result))
+        × (21760 ≤ length (now work)) ⌝ }
+    ensures { λ r. ⌜ Answered (now (book .entry)) (now (packet .entry)) (now (schedule .entry)) (now (result .entry))
+        (now (work .entry)) r (now (result .exit)) (now (work .exit)) ⌝ }
 {
     let mut out = [0u16; 128];
     let e = evaluator::evaluate(book, packet, &mut out);
@@ -922,7 +936,8 @@ fn run_accepted(
     k: usize,
 ) -> Ran
     requires { ⌜ IsAccepted (now book) × (k ≡ fieldsOf (now book)) × (k ≤ 8) ⌝ }
-    ensures { λ r. ⌜ Answered (now (book .entry)) (now (packet .entry)) (now (schedule .entry)) (now (result .entry)) (now (work .entry)) r (now (result .exit)) (now (work .exit)) ⌝ }
+    ensures { λ r. ⌜ Answered (now (book .entry)) (now (packet .entry)) (now (schedule .entry)) (now (result .entry))
+        (now (work .entry)) r (now (result .exit)) (now (work .exit)) ⌝ }
 {
     if packet.len() != k {
         return Ran::NotRun(Refusal::PacketLength);
@@ -944,9 +959,12 @@ pub fn run(
     result: &mut [u16],
     work: &mut [u16],
 ) -> Ran
-    ensures { λ r. ⌜ (r ≡ ran (now (book .entry)) (now (packet .entry)) (now (schedule .entry)) (length (now (result .entry))) (length (now (work .entry))))
-        × (now (result .exit) ≡ ranResult (now (book .entry)) (now (packet .entry)) (now (schedule .entry)) (now (result .entry)) (length (now (work .entry))))
-        × (now (work .exit) ≡ ranArea (now (book .entry)) (now (packet .entry)) (now (schedule .entry)) (length (now (result .entry))) (now (work .entry))) ⌝ }
+    ensures { λ r. ⌜ (r ≡ ran (now (book .entry)) (now (packet .entry)) (now (schedule .entry))
+        (length (now (result .entry))) (length (now (work .entry))))
+        × (now (result .exit) ≡ ranResult (now (book .entry)) (now (packet .entry)) (now (schedule .entry))
+        (now (result .entry)) (length (now (work .entry))))
+        × (now (work .exit) ≡ ranArea (now (book .entry)) (now (packet .entry)) (now (schedule .entry))
+        (length (now (result .entry))) (now (work .entry))) ⌝ }
 {
     let v = typing::accept(book);
     match v {
