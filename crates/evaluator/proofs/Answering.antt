@@ -25,7 +25,7 @@ use Rattle.rules.proofs.Answering.{Granted, not-given-keeps, evaluated-refused,
 use Rattle.rules.proofs.AcceptedBooks.{accepted-sizes, accepted-fields, accepted-parts, accepted-deep}
 use Rattle.packets.specs.declared.PacketSet.{PacketSet}
 use Rattle.packets.specs.Rows.{Whole, Is, rows}
-use Rattle.packets.specs.Areas.{Emitted}
+use Rattle.rows.specs.Areas.{Emitted}
 use Rattle.evaluator.specs.Work.{namedIn, partIn, Fair, Did, Sees, Answers}
 use Rattle.evaluator.specs.declared.Worked.{Worked}
 use Rattle.evaluator.specs.declared.Looked.{Looked}

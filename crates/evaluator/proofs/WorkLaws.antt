@@ -15,8 +15,8 @@ use Rattle.rules.proofs.Bounds.{handed, given}
 use Rattle.packets.specs.declared.PacketSet.{PacketSet}
 use Rattle.packets.specs.declared.Made.{Made}
 use Rattle.packets.specs.Rows.{Whole, Is, Gives, rows}
-use Rattle.packets.specs.Arrays.{blank}
-use Rattle.packets.proofs.Chunks.{length-chunks, getD-chunks}
+use Rattle.rows.specs.Arrays.{blank}
+use Rattle.rows.proofs.Chunks.{length-chunks, getD-chunks}
 use Rattle.evaluator.specs.Work.{worked, Fine, Did, Joins}
 use Rattle.evaluator.specs.declared.Worked.{Worked}
 

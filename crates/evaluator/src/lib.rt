@@ -204,7 +204,7 @@ fn alone(ps: PacketSet, i: usize, w: u8) -> PacketSet
     requires { ⌜ (i < ps .count) × Whole ps ⌝ }
     ensures { λ r. ⌜ Is r (less (ps .mask) w) (without w (getD (rows ps) i []) ∷ []) ⌝ }
 {
-    let p = packets::bare(w, packets::packet(ps, i));
+    let p = rows::bare(w, packets::packet(ps, i));
     packets::one(p, (ps.mask | w) ^ w)
 }
 

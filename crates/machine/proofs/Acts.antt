@@ -8,9 +8,10 @@ use lib.ListN.{length, take, drop, getD, set, replicate, length-drop, length-app
 use lib.Seq.{paste, take-all, length-take-le, drop-at, drop-drop}
 use Rattle.rules.specs.Packets.{Packets, Ascending}
 use Rattle.packets.specs.declared.PacketSet.{PacketSet}
-use Rattle.packets.specs.Rows.{chunks, rows, Packed, Whole, Is}
-use Rattle.packets.specs.Arrays.{eightAt, storedAt}
-use Rattle.packets.proofs.Chunks.{eight-at, stored-at, length-chunks, chunks-append, chunks-add}
+use Rattle.rows.specs.Chunks.{chunks, Packed}
+use Rattle.packets.specs.Rows.{rows, Whole, Is}
+use Rattle.rows.specs.Arrays.{eightAt, storedAt}
+use Rattle.rows.proofs.Chunks.{eight-at, stored-at, length-chunks, chunks-append, chunks-add}
 use Rattle.machine.specs.Area.{heads, slots, Now, turned, Pos, slotOf, posOf, here, all, order, Wf, Holds, marked, given}
 use Rattle.machine.proofs.Blocks.{moved, moved-eq}
 use Rattle.machine.proofs.Areas.{now-then, now-as, head-at, word-at, slot-at, put-head, move-heads, put-slot, length-heads}

@@ -20,8 +20,8 @@ use Rattle.rules.proofs.Measures.{final}
 use Rattle.rules.proofs.Schedules.{view, finished, unfinished}
 use Rattle.packets.specs.declared.PacketSet.{PacketSet}
 use Rattle.packets.specs.Rows.{rows, Is}
-use Rattle.packets.specs.Areas.{Emitted, onto}
-use Rattle.packets.proofs.Chunks.{length-chunks}
+use Rattle.rows.specs.Areas.{Emitted, onto}
+use Rattle.rows.proofs.Chunks.{length-chunks}
 use Rattle.machine.specs.Area.{Pos, here, order, Wf}
 use Rattle.machine.specs.Ready.{count, marks}
 use Rattle.machine.specs.Shown.{Live, Done, flat, meantBy, meant, state, Fit, Playable, Held, Played}

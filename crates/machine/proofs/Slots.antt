@@ -7,8 +7,8 @@ use native.Mathlib.Omega.{arith}
 use lib.ListN.{length, take, drop, getD, set, length-map, List·getD-map}
 use lib.Seq.{getD-set-same, getD-set-other, length-take-le, map-set-same, set-set, paste}
 use Rattle.rules.specs.Packets.{Packets}
-use Rattle.packets.specs.Rows.{chunks}
-use Rattle.packets.proofs.Chunks.{chunks-append}
+use Rattle.rows.specs.Chunks.{chunks}
+use Rattle.rows.proofs.Chunks.{chunks-append}
 use Rattle.machine.specs.Area.{heads, slots, Now, turned, Pos, slotOf, posOf, here, all, nodes, order, Wf, Holds, marked, given}
 use Rattle.machine.proofs.Blocks.{map-set}
 use Rattle.machine.proofs.Areas.{length-heads, length-slots, word-at}

@@ -4,7 +4,7 @@ use mathlib.Core.Path.{_≡_}
 use mathlib.Core.List.{List, [], _∷_, _++_, map, List·Mem, List·Nodup}
 use lib.ListN.{length, take, drop, getD}
 use Rattle.rules.specs.Packets.{Packets}
-use Rattle.packets.specs.Rows.{chunks}
+use Rattle.rows.specs.Chunks.{chunks}
 
 -- n blocks of S words each
 abbrev pub blocks : {A : Type 0} → ℕ → ℕ → List A → List (List A)

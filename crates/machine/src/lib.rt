@@ -21,7 +21,7 @@ ghost use Rattle.rules.specs.Working.{out};
 ghost use Rattle.rules.specs.States.{join};
 ghost use Rattle.rules.specs.Answers.{start, resultRun, overwritten, ran, ranResult, ranArea};
 ghost use Rattle.packets.specs.Rows.{rows, Is, Whole};
-ghost use Rattle.packets.specs.Arrays.{eightAt, storedAt};
+ghost use Rattle.rows.specs.Arrays.{eightAt, storedAt};
 ghost use Rattle.machine.specs.Area.{heads, slots, Now, turned, here, all, order, Wf, Holds};
 ghost use Rattle.machine.specs.Area.{marked, given, finished, Becomes, Parts, Numbered};
 ghost use Rattle.machine.specs.Ready.{fin, rdL, count, nth, marks};

@@ -1,11 +1,3 @@
 -- The laws of packet sets that the proofs of the functions cite, and those that the layers above use.
-pub mod Chunks
-pub mod Fillings
-pub mod Comparing
-pub mod Inserting
-pub mod Merging
-pub mod Sifting
-pub mod Pairing
-pub mod Lending
-pub mod Emitting
+pub mod Sets
 pub mod Words

@@ -1,7 +1,6 @@
 -- The count says whether the packets are too many.
 use native.Mathlib.Omega.{arith}
-use Rattle.packets.proofs.Fillings.{gives-none}
-use Rattle.packets.proofs.Inserting.{inserted-gives}
+use Rattle.packets.proofs.Sets.{gives-none, inserted-gives}
 use borrow.Author.Needs.{needs}
 use Rattle.packets.proofs.insert.Statement.{statement}
 use Rattle.packets.proofs.insert.Tie as tie

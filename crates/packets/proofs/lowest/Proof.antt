@@ -1,7 +1,7 @@
 -- The first packet, or none.
 use mathlib.Core.Path.{refl}
-use Rattle.packets.proofs.Chunks.{rows-first, rows-none}
-use Rattle.packets.proofs.Fillings.{is-as, is-self}
+use Rattle.rows.proofs.Chunks.{rows-first, rows-none}
+use Rattle.packets.proofs.Sets.{is-as, is-self}
 use borrow.Author.Needs.{needs}
 use Rattle.packets.proofs.lowest.Statement.{statement}
 use Rattle.packets.proofs.lowest.Tie as tie

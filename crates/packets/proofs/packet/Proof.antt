@@ -3,8 +3,8 @@ use mathlib.Core.Path.{sym, _∙_}
 use Prim.Native.Nat.{_≤_}
 use lib.ListN.{length, List·getD-eq-default}
 use Rattle.packets.specs.Rows.{rows}
-use Rattle.packets.specs.Arrays.{blank}
-use Rattle.packets.proofs.Chunks.{getD-chunks, length-chunks}
+use Rattle.rows.specs.Arrays.{blank}
+use Rattle.rows.proofs.Chunks.{getD-chunks, length-chunks}
 use borrow.Author.Needs.{needs}
 use Rattle.packets.proofs.packet.Statement.{statement}
 use Rattle.packets.proofs.packet.Tie as tie

@@ -3,10 +3,12 @@ use Prim.Native.Nat.{_+_, _-_}
 use mathlib.Core.Path.{_≡_}
 use native.Mathlib.Omega.{arith}
 use lib.ListN.{drop}
-use Rattle.packets.specs.Rows.{chunks, rows}
-use Rattle.packets.proofs.Chunks.{rows-at, rows-done}
-use Rattle.packets.proofs.Fillings.{Filling, filling-start, filling-next, filling-end}
-use Rattle.packets.proofs.Merging.{ascending-drop}
+use Rattle.rows.specs.Chunks.{chunks}
+use Rattle.packets.specs.Rows.{rows}
+use Rattle.rows.proofs.Chunks.{rows-at, rows-done}
+use Rattle.rows.proofs.Fillings.{zeros-held, Filling, filling-start, filling-next, filling-end}
+use Rattle.rows.proofs.Merging.{ascending-drop}
+use Rattle.packets.proofs.Sets.{held-is}
 use borrow.Author.Needs.{needs}
 use Rattle.packets.proofs.rest.Statement.{statement}
 use Rattle.packets.proofs.rest.Tie as tie
@@ -30,7 +32,7 @@ returns c =
     let l = c .before in
     let s = l .before .before in
     let e = rows-done (s .args .s .count) (s .args .s .values) (l .loop .j) (search needs) in
-    filling-end (rw e at (l .loop .inv .1)) (ascending-drop 1 (rows (s .args .s)) (s .pre .order))
+    held-is (filling-end (rw e at (l .loop .inv .1)) (ascending-drop 1 (rows (s .args .s)) (s .pre .order)))
 
 pub rest-spec : {M : Type 1} → statement M
 rest-spec =
@@ -38,7 +40,7 @@ rest-spec =
     (tie.spec
     Inv-loop
     μ-loop
-    (λ c. (search needs, filling-start _))
+    (λ c. (search needs, filling-start _ zeros-held))
     (λ c κs. search needs)
     (λ c κs. search needs)
     (λ c. search needs)

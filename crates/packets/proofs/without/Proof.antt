@@ -5,8 +5,10 @@ use native.Mathlib.Omega.{arith}
 use lib.ListN.{drop}
 use Rattle.rules.specs.Masks.{less}
 use Rattle.rules.specs.Packets.{without, gathered}
-use Rattle.packets.specs.Rows.{chunks}
-use Rattle.packets.proofs.Inserting.{Gathering, gathering-start, gathering-end, gather-next, gather-end}
+use Rattle.rows.specs.Chunks.{chunks}
+use Rattle.rows.proofs.Fillings.{zeros-held}
+use Rattle.rows.proofs.Inserting.{Gathering, gathering-start, gathering-end, gather-next, gather-end}
+use Rattle.packets.proofs.Sets.{held-is}
 use borrow.Author.Needs.{needs}
 use Rattle.packets.proofs.without.Statement.{statement}
 use Rattle.packets.proofs.without.Tie as tie
@@ -31,7 +33,7 @@ unfolding less
 returns c =
     let l = c .before .before in
     let g = l .before .before .args in
-    gathering-end (gather-end (without (g .w)) (g .s .values) (g .s .count) (l .loop .j) (l .loop .inv .1) (search needs))
+    held-is (gathering-end (gather-end (without (g .w)) (g .s .values) (g .s .count) (l .loop .j) (l .loop .inv .1) (search needs)))
 
 pub without-spec : {M : Type 1} → statement M
 without-spec =
@@ -39,7 +41,7 @@ without-spec =
     (tie.spec
     Inv-loop
     μ-loop
-    (λ c. (search needs, gathering-start _))
+    (λ c. (search needs, gathering-start _ zeros-held))
     (λ c κs. search needs)
     (λ c κs. search needs)
     (λ c κs. search needs)

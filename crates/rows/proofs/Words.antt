@@ -1,0 +1,76 @@
+-- Packets fix an array to the last word: what an array's words are, and which words are those of packets.
+use Prim.Native.Nat.{ℕ, zero, suc, _+_, _*_, _-_, _≤_}
+use mathlib.Core.Path.{_≡_, refl, sym, ap, _∙_, subst}
+use mathlib.Core.List.{List, _++_, append-assoc}
+use native.Mathlib.Omega.{arith}
+use lib.ListN.{length, take, drop, replicate, length-append, length-take, length-drop, length-replicate, take-append-drop}
+use lib.Seq.{take-all, take-at, drop-at, take-add, length-take-le}
+use Rattle.rules.specs.Packets.{Packet, Packets, Ascending, valuesOf}
+use Rattle.rules.proofs.Lists.{All, none, also}
+use Rattle.rows.specs.Chunks.{chunks, Held, wordsOf}
+use Rattle.rows.proofs.Fillings.{held-count}
+
+-- a packet of eight values
+abbrev pub Eight : Packet → Type 0
+Eight x = length x ≡ 8
+
+pub chunks-eight : (n : ℕ) (v : List ℕ) → n * 8 ≤ length v → All Eight (chunks n v)
+unfolding chunks
+chunks-eight zero v h = none
+chunks-eight (suc n) v h =
+    let m : n * 8 ≤ length (drop 8 v) = simp length-drop (omega arith) in
+    also (length-take-le 8 v (omega arith)) (chunks-eight n (drop 8 v) m)
+
+values-chunks : (n : ℕ) (v : List ℕ) → valuesOf 8 (chunks n v) ≡ take (n * 8) v
+unfolding valuesOf chunks
+values-chunks zero v = refl
+values-chunks (suc n) v =
+    let l : length (take 8 v) ≤ 8 = simp length-take (omega arith) in
+    let e : suc n * 8 ≡ 8 + n * 8 = omega arith in
+    rw (take-all 8 (take 8 v) l, values-chunks n (drop 8 v), e) (sym (take-add 8 (n * 8) v))
+
+length-eight : {s : Packets} → All Eight s → length (valuesOf 8 s) ≡ length s * 8
+unfolding valuesOf
+length-eight none = refl
+length-eight (also {x} {xs = s} e a) =
+    let l : length x ≤ 8 = omega arith in
+    rw (take-all 8 x l, length-append, length-eight a) (omega arith)
+
+chunks-values : {s : Packets} → All Eight s → (z : List ℕ) → chunks (length s) (valuesOf 8 s ++ z) ≡ s
+unfolding valuesOf chunks
+chunks-values none z = refl
+chunks-values (also {x} {xs = s} e a) z =
+    let l : length x ≤ 8 = omega arith in
+    let y = valuesOf 8 s ++ z in
+    rw (take-all 8 x l, append-assoc x (valuesOf 8 s) z, take-at x y 8 e, drop-at x y 8 e, chunks-values a z)
+
+module _ {v : List ℕ} {n : ℕ} {s : Packets} (k : Held v n s) where
+  pub held-eight : All Eight s
+  held-eight =
+      subst (λ (t : Packets). All Eight t) (k .same) (chunks-eight n v (omega (arith, k .packed .size, k .packed .room)))
+
+  pub held-values : v ≡ wordsOf s
+  unfolding wordsOf
+  held-values =
+      let e : valuesOf 8 s ≡ take (n * 8) v = ap (λ (t : Packets). valuesOf 8 t) (sym (k .same)) ∙ values-chunks n v in
+      sym (take-append-drop (n * 8) v) ∙ rw (e, k .packed .zeros, held-count k)
+
+-- the packets fix the count and every word
+pub one-array : {v v′ : List ℕ} {n n′ : ℕ} {s : Packets} → Held v n s → Held v′ n′ s → (v ≡ v′) × (n ≡ n′)
+one-array k l = (held-values k ∙ sym (held-values l), held-count k ∙ sym (held-count l))
+
+pub words-held : (s : Packets) → Ascending s → length s ≤ 16 → All Eight s → Held (wordsOf s) (length s) s
+unfolding wordsOf
+words-held s h l a =
+    let z = replicate {A = ℕ} (128 - length s * 8) 0 in
+    let n = length-eight a in
+    let e = chunks-values a z in
+    record {
+      packed = record {
+        size = rw (length-append, n) (simp length-replicate (omega arith));
+        room = l;
+        zeros = drop-at (valuesOf 8 s) z (length s * 8) n;
+        order = rw e h;
+      };
+      same = e;
+    }
