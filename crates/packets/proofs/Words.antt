@@ -27,4 +27,5 @@ one-made {r} {t} g h = made-eq r t (g .fits ∙ sym (h .fits)) (one-set (g .set)
 pub loaded-is : {r : PacketSet} {m : ℕ} (s : Packets) → r .values ≡ wordsOf s → r .count ≡ length s → r .mask ≡ m
     → Ascending s → length s ≤ 16 → All Eight s → Is r m s
 loaded-is {r} {m} s e f g h l a =
-    subst (λ (t : PacketSet). Is t m s) (sym (set-eq r (record { values = wordsOf s; count = length s; mask = m }) e f g)) (held-is (words-held s h l a))
+    let t = set-eq r (record { values = wordsOf s; count = length s; mask = m }) e f g in
+    subst (λ (t : PacketSet). Is t m s) (sym t) (held-is (words-held s h l a))

@@ -104,8 +104,9 @@ shifted-next w w₀ j b k e h f l₀ a =
       size = length-put j w (rowAt w b) (omega (arith, a .size)) (length-row w b (a .size) (omega arith)) ∙ a .size;
       low = rw (d, take-at (take (j * 8) w) z (j * 8) front) lo;
       high =
-          rw (d, drop-at (take (j * 8) w) z (j * 8) front, a .high, r, m, take-add 8 ((k - j) * 8) (drop (b * 8) w₀), drop-drop 8 (b * 8) w₀, d)
-          (sym (append-assoc (rowAt w₀ b) (take ((k - j) * 8) (drop (j * 8) w₀)) (drop (k * 8 + 8) w₀)));
+          rw (d, drop-at (take (j * 8) w) z (j * 8) front, a .high, r, m, take-add 8 ((k - j) * 8) (drop (b * 8) w₀))
+          (rw (drop-drop 8 (b * 8) w₀, d)
+          (sym (append-assoc (rowAt w₀ b) (take ((k - j) * 8) (drop (j * 8) w₀)) (drop (k * 8 + 8) w₀))));
     }
 
 -- ---- a packet put in the gap
@@ -190,7 +191,8 @@ pub inserted-not : (w₀ p : List ℕ) (i k : ℕ) → k ≡ 16 → insert p (ch
     → Inserted w₀ w₀ k p 17
 inserted-not w₀ p i k h e =
     let s = chunks k w₀ in
-    let n : length (take i s) + length (drop i s) ≡ length s = sym (length-append (take i s) (drop i s)) ∙ ap length (take-append-drop i s) in
+    let n : length (take i s) + length (drop i s) ≡ length s =
+    sym (length-append (take i s) (drop i s)) ∙ ap length (take-append-drop i s) in
     let m : length (insert p s) ≡ length (take i s) + suc (length (drop i s)) = ap length e ∙ length-append (take i s) (p ∷ drop i s) in
     record { count = omega (arith, length-chunks k w₀); made = λ o. absurd (omega arith); kept = λ o. refl }
 

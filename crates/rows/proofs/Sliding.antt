@@ -101,7 +101,8 @@ module _ {w x : List ℕ} {j k : ℕ} {left whole : Packets} (a : Sliding w x j 
       let n : (j + 1) * 8 ≡ (k + 1) * 8 + (j - k) * 8 = omega arith in
       let m : k * 8 + 8 + (j - k) * 8 ≡ (k + 1) * 8 + (j - k) * 8 = omega arith in
       let r : drop ((j + 1) * 8) (putRow w k p) ≡ drop ((j + 1) * 8) w =
-      rw (n, ← drop-drop ((j - k) * 8) ((k + 1) * 8) (putRow w k p), put-rest k w p fits f, drop-drop 8 (k * 8) w, drop-drop ((j - k) * 8) (k * 8 + 8) w, m) in
+      rw (n, ← drop-drop ((j - k) * 8) ((k + 1) * 8) (putRow w k p), put-rest k w p fits f)
+      (rw (drop-drop 8 (k * 8) w, drop-drop ((j - k) * 8) (k * 8 + 8) w, m)) in
       record {
         size = length-put k w p fits f ∙ a .size;
         tail = r ∙ next-tail;

@@ -59,8 +59,8 @@ returns : tie.Need-returns Inv-loop μ-loop
 returns c =
     let l = c .before .before .before in
     let s = l .before in
-    let e = keep-end _ (s .args .v .now) (s .args .n) (l .loop .i) (l .loop .inv .3) (s .pre .0) (search needs) (search needs) (search needs) in
-    rw (c .clear-rows .ensures) (e (keep-ascending _ _ (s .pre .0 .order)))
+    let e = keep-end _ (s .args .v .now) (s .args .n) (l .loop .i) (l .loop .inv .3) (s .pre .0) in
+    rw (c .clear-rows .ensures) (e (search needs) (search needs) (search needs) (keep-ascending _ _ (s .pre .0 .order)))
 
 pub difference-in-spec : {M : Type 1} → statement M
 difference-in-spec =

@@ -42,8 +42,8 @@ returns : tie.Need-returns Inv-loop μ-loop
 returns c =
     let l = c .before .before .before in
     let s = l .before in
-    let e = keep-end _ (s .args .v .now) (s .args .n) (l .loop .j) (l .loop .inv .2) (s .pre) (search needs) (search needs) (search needs) in
-    rw (c .clear-rows .ensures) (e (keep-ascending _ _ (s .pre .order)))
+    let e = keep-end _ (s .args .v .now) (s .args .n) (l .loop .j) (l .loop .inv .2) (s .pre) in
+    rw (c .clear-rows .ensures) (e (search needs) (search needs) (search needs) (keep-ascending _ _ (s .pre .order)))
 
 pub keep-in-spec : {M : Type 1} → statement M
 keep-in-spec =

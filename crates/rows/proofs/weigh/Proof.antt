@@ -6,7 +6,9 @@ use Rattle.rows.proofs.weigh.Statement.{statement}
 use Rattle.rows.proofs.weigh.Tie as tie
 
 returns : tie.Need-returns
-returns c = let g = c .before .before .before .before .args in c .order-at .ensures ∙ sym (weighed _ (g .b .now) (g .m) (g .j) (search needs))
+returns c =
+    let g = c .before .before .before .before .args in
+    c .order-at .ensures ∙ sym (weighed _ (g .b .now) (g .m) (g .j) (search needs))
 
 returns-2 : tie.Need-returns-2
 returns-2 c = let g = c .before .args in sym (weighed-none _ (g .b .now) (g .m) (g .j) (search needs))
