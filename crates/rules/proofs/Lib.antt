@@ -39,3 +39,5 @@ pub mod Stuck
 -- the answers
 pub mod Answering
 pub mod Runs
+-- for the proofs of the code above
+pub mod Cycles

@@ -24,12 +24,12 @@ use Rattle.rules.specs.Reading.{tablesOf, lengthAt, readsAt, writesAt, bodyStar
 use Rattle.rules.proofs.ReadingLaws.{then-next}
 use Rattle.book.specs.Counting.{uses}
 use Rattle.book.proofs.CodeLaws.{by-code, part-suc}
-use Rattle.book.proofs.PlaceLaws.{parts-few}
+use Rattle.book.proofs.PlaceLaws.{operands-few, parts-few}
 use Rattle.book.proofs.ReadLaws.{turn-more}
 use Rattle.typing.specs.declared.Masks.{Masks}
 use Rattle.typing.specs.declared.Judged.{Judged}
-use Rattle.typing.specs.Judging.{masksOf, masksAt, rightHere, judge, rightSides, Found, firstOf, BothFound, BesideFound}
-use Rattle.typing.specs.Judging.{judgeEntry, fitIf, fitMasked, fitEntry, inTurn}
+use Rattle.typing.specs.Judging.{masksOf, masksAt, rightHere, judge, marked, firstOf, rightSides, Found, BothFound, BesideFound}
+use Rattle.typing.specs.Judging.{judgeEntry, fitMasked, fitEntry, inTurn}
 use Rattle.typing.proofs.WalkLaws.{masks-zero, masks-end, masks-leaf, masks-one, masks-both, masks-beside}
 
 -- ---- the rule of a concurrent part, one test after the other
@@ -59,19 +59,14 @@ module _ (wp wq tp mp tq mq : ℕ) where
         q-tests d = rw (eq-eqb (bitOr mp wp) wp a, eq-eqb (bitOr mq wq) wq b, eq-eqb (bitAnd wp wq) 0 c, eq-eqb (bitAnd tp wq) 0 d)
 
 -- a body that fits, one test after the other
-module _ (r w t m at : ℕ) where
-  pub fit-tests : (bitOr t (bitOr r w) ≡ bitOr r w → ⊥) → Wrong at ≡ fitIf (fitMasks r w t m) at
+module _ (r w t m : ℕ) where
+  pub fit-tests : (bitOr t (bitOr r w) ≡ bitOr r w → ⊥) → false ≡ fitMasks r w t m
   unfolding fitMasks within
   fit-tests h = rw (ne-eqb (bitOr t (bitOr r w)) (bitOr r w) h)
 
-  module _ (e : bitOr t (bitOr r w) ≡ bitOr r w) where
-    pub fit-writes : (bitOr m w ≡ w → ⊥) → Wrong at ≡ fitIf (fitMasks r w t m) at
-    unfolding fitMasks within
-    fit-writes h = rw (eq-eqb (bitOr t (bitOr r w)) (bitOr r w) e, ne-eqb (bitOr m w) w h)
-
-    pub fit-right : bitOr m w ≡ w → Next 0 ≡ fitIf (fitMasks r w t m) at
-    unfolding fitMasks within
-    fit-right h = rw (eq-eqb (bitOr t (bitOr r w)) (bitOr r w) e, eq-eqb (bitOr m w) w h)
+  pub fit-writes : bitOr t (bitOr r w) ≡ bitOr r w → eqb (bitOr m w) w ≡ fitMasks r w t m
+  unfolding fitMasks within
+  fit-writes h = rw (eq-eqb (bitOr t (bitOr r w)) (bitOr r w) h)
 
 -- ---- the part at a place, itself
 
@@ -138,11 +133,45 @@ judge-next s named (suc d) at a e =
     go ih true false e = let z : _≡_ {A = ℕ} 0 1 = cc in absurd (omega arith)
     go ih true true e = ih e
 
+-- ---- faults as numbers
+
+pub first-none : (a b : ℕ) → a ≡ 0 → b ≡ firstOf a b
+first-none a b e = rw e
+
+pub first-some : (a b : ℕ) → (a ≡ 0 → ⊥) → a ≡ firstOf a b
+first-some zero b h = absurd (h refl)
+first-some (suc a) b h = refl
+
+first-alone : (a : ℕ) → firstOf a 0 ≡ a
+first-alone zero = refl
+first-alone (suc a) = refl
+
+first-first : (a b c : ℕ) → firstOf a (firstOf b c) ≡ firstOf (firstOf a b) c
+first-first zero b c = refl
+first-first (suc a) b c = refl
+
+stops : (a : ℕ) → (a ≡ 0 → ⊥) → (b c : ℕ) → firstOf (firstOf a b) c ≡ a
+stops zero h b c = absurd (h refl)
+stops (suc a) h b c = refl
+
+pub as-marked : {a b : Reading} → a ≡ b → marked b ≡ marked a
+as-marked e = rw e
+
+pub marked-then : (l r : Reading) → marked (andThen l (λ a. r)) ≡ firstOf (marked l) (marked r)
+marked-then (Next a) r = refl
+marked-then (Wrong a) r = first-some (a + 1) (marked r) (λ e. omega arith)
+
+marked-cond : (t : Bool) (r : Reading) (at : ℕ) → cond t (marked r) (at + 1) ≡ marked (cond t r (Wrong at))
+marked-cond true r at = refl
+marked-cond false r at = refl
+
 -- two parts, where it is known at which place the second stands
-times-both : (f : ℕ → Reading) (b m : ℕ) (l : Reading) → l ≡ f b → ((a : ℕ) → f b ≡ Next a → a ≡ m)
-    → firstOf l (f m) ≡ readTimes 2 f b
-times-both f b m (Next a) e h = rw (← e, h a (sym e)) (sym (then-next (f m)))
-times-both f b m (Wrong a) e h = rw (← e)
+times-both : (f : ℕ → Reading) (b m : ℕ) → ((a : ℕ) → f b ≡ Next a → a ≡ m) → readTimes 2 f b ≡ andThen (f b) (λ a. f m)
+times-both f b m h = go (f b) (h)
+  where
+    go : (l : Reading) → ((a : ℕ) → l ≡ Next a → a ≡ m) → andThen l (λ a. andThen (f a) (λ c. Next c)) ≡ andThen l (λ a. f m)
+    go (Next a) h = rw (h a refl) (then-next (f m))
+    go (Wrong a) h = refl
 
 module _ (s : List ℕ) (named : ℕ → Part) (d at : ℕ) where
   judge-zero : d ≡ 0 → Next at ≡ judge s named d at
@@ -169,131 +198,161 @@ module _ (s : List ℕ) (named : ℕ → Part) (d at : ℕ) where
 
 -- ---- what the walk finds at a place
 
-pub leaf-row : (c : ℕ) (x : Shape) → x ≡ shapeAt c → x .parts ≡ 0 → partsOf c ≡ 0
-leaf-row c x ex z = rw ex at z
-
 -- nothing stands there
 abbrev Nothing : ℕ → Judged → Type 0
-Nothing at j = (j .masks ≡ record { tests = 0; writes = 0; next = at }) × (j .fault ≡ Next at)
+Nothing at j = (j .masks ≡ record { tests = 0; writes = 0; next = at }) × (j .fault ≡ 0)
 
 module _ (s : List ℕ) (named : ℕ → Part) (d at : ℕ) (j : Judged) (n : Nothing at j) where
   pub zero-found : d ≡ 0 → Found s named d at j
-  zero-found e = (n .0 ∙ masks-zero s named d at e, n .1 ∙ judge-zero s named d at e)
+  zero-found e = (n .0 ∙ masks-zero s named d at e, n .1 ∙ rw (← judge-zero s named d at e))
 
   pub end-found : length s ≤ at → Found s named d at j
-  end-found h = (n .0 ∙ masks-end s named d at h, n .1 ∙ judge-end s named d at h)
+  end-found h = (n .0 ∙ masks-end s named d at h, n .1 ∙ rw (← judge-end s named d at h))
 
--- x is the row of the code at the place
-module _ (s : List ℕ) (main : Bool) (d at : ℕ) (hd : d ≡ 0 → ⊥) (h : at < length s) (x : Shape) (ex : x ≡ shapeAt (getD s at 0)) where
-  other-step : (getD s at 0 ≡ 7 → ⊥)
-      → judge s (uses s main) d at ≡ readTimes (x .parts) (judge s (uses s main) (d - 1)) (at + 1 + x .operands)
-  other-step n = judge-step s (uses s main) d at hd h true (here-other s main d at hd n) ∙ rw ex
+-- what is known where a code byte stands, x being the row of its code; and once two parts below it are walked
+pub record AtCode (s : List ℕ) (main : Bool) (d at : ℕ) (x : Shape) : Type 0 where
+  pub deep : d ≡ 0 → ⊥
+  pub inside : at < length s
+  pub row : x ≡ shapeAt (getD s at 0)
 
-  not-beside : (n : ℕ) → n < 2 → x .parts ≡ n → getD s at 0 ≡ 7 → ⊥
-  not-beside n l e q = let f : x .parts ≡ 2 = rw (ex, q) in omega arith
+pub record AtTwo (s : List ℕ) (main : Bool) (d at : ℕ) (x : Shape) (l r : Judged) : Type 0 where
+  pub code : AtCode s main d at x
+  pub left : Found s (uses s main) (d - 1) (at + 1 + x .operands) l
+  pub right : Found s (uses s main) (d - 1) (l .masks .next) r
+  pub some-parts : x .parts ≡ 0 → ⊥
+  pub not-one : x .parts ≡ 1 → ⊥
 
-  pub leaf-found : (o : Masks) → o ≡ masksOf (built s (uses s main) at (getD s at 0) Id Id) (at + 1 + x .operands) → x .parts ≡ 0
-      → Found s (uses s main) d at (record { masks = o; fault = Next (at + 1 + x .operands) })
-  leaf-found o eo z = (
-    masks-leaf s (uses s main) d at hd h x ex o eo z,
-    sym (other-step (not-beside 0 (omega arith) z) ∙ rw z),
-  )
+module _ (s : List ℕ) (main : Bool) (d at : ℕ) (x : Shape) where
+  named : ℕ → Part
+  named = uses s main
 
-  module _ (l : Judged) (el : Found s (uses s main) (d - 1) (at + 1 + x .operands) l) where
-    pub one-found : x .parts ≡ 1 → Found s (uses s main) d at l
-    one-found z = (
-      masks-one s (uses s main) d at hd h x ex (l .masks) (el .0) z,
-      el .1 ∙ sym (other-step (not-beside 1 (omega arith) z) ∙ rw z (then-next (judge s (uses s main) (d - 1) (at + 1 + x .operands)))),
+  from : ℕ
+  from = at + 1 + x .operands
+
+  module _ (k : AtCode s main d at x) where
+    other-step : (getD s at 0 ≡ 7 → ⊥) → judge s named d at ≡ readTimes (x .parts) (judge s named (d - 1)) from
+    unfolding named from
+    other-step n = judge-step s (uses s main) d at (k .deep) (k .inside) true (here-other s main d at (k .deep) n) ∙ rw (k .row)
+
+    not-beside : (n : ℕ) → n < 2 → x .parts ≡ n → getD s at 0 ≡ 7 → ⊥
+    not-beside n l e q = let f : x .parts ≡ 2 = rw (k .row, q) in omega arith
+
+    pub few-operands : x .operands ≤ 3
+    few-operands = operands-few (getD s at 0) x (k .row)
+
+    pub leaf-row : x .parts ≡ 0 → partsOf (getD s at 0) ≡ 0
+    leaf-row z = rw (k .row) at z
+
+    pub leaf-found : (o : Masks) → o ≡ masksOf (built s (uses s main) at (getD s at 0) Id Id) (at + 1 + x .operands) → x .parts ≡ 0
+        → Found s (uses s main) d at (record { masks = o; fault = 0 })
+    unfolding named
+    leaf-found o eo z = (
+      masks-leaf s (uses s main) d at (k .deep) (k .inside) x (k .row) o eo z,
+      let e : readTimes (x .parts) (judge s named (d - 1)) from ≡ Next from = rw z in
+          as-marked (other-step (not-beside 0 (omega arith) z) ∙ e),
     )
 
-    module _ (r : Judged) (er : Found s (uses s main) (d - 1) (l .masks .next) r) (n0 : x .parts ≡ 0 → ⊥) (n1 : x .parts ≡ 1 → ⊥) where
-      both-fault : firstOf (l .fault) (r .fault) ≡ readTimes (x .parts) (judge s (uses s main) (d - 1)) (at + 1 + x .operands)
-      unfolding masksAt
-      both-fault =
-          let f = parts-few (getD s at 0) x ex in
-          let two : x .parts ≡ 2 = omega arith in
-          let b : ℕ = at + 1 + x .operands in
-          let m : after s (d - 1) b ≡ l .masks .next = sym (ap (λ (p : Masks). p .next) (el .0)) in
-          rw (er .1, two)
-          (times-both (judge s (uses s main) (d - 1)) b (l .masks .next) (l .fault) (el .1)
-          (λ a q. judge-next s (uses s main) (d - 1) b a q ∙ m))
+    pub one-found : (l : Judged) → Found s (uses s main) (d - 1) (at + 1 + x .operands) l → x .parts ≡ 1 → Found s (uses s main) d at l
+    unfolding named from
+    one-found l el z = (
+      masks-one s (uses s main) d at (k .deep) (k .inside) x (k .row) (l .masks) (el .0) z,
+      let e : readTimes (x .parts) (judge s named (d - 1)) from ≡ judge s named (d - 1) from
+          = rw z (then-next (judge s named (d - 1) from)) in
+          el .1 ∙ as-marked (other-step (not-beside 1 (omega arith) z) ∙ e),
+    )
 
-      pub both-found : (z : Judged) → (getD s at 0 ≡ 7 → ⊥) → BothFound l r z → Found s (uses s main) d at z
-      both-found z n7 ez = (
-        ez .0 ∙ masks-both s (uses s main) d at hd h x ex (l .masks) (el .0) (r .masks) (er .0) n0 n1 n7,
-        ez .1 ∙ both-fault ∙ sym (other-step n7),
-      )
+  module _ (l r : Judged) (w : AtTwo s main d at x l r) where
+    both-fault : firstOf (l .fault) (r .fault) ≡ marked (readTimes (x .parts) (judge s named (d - 1)) from)
+    unfolding masksAt named from
+    both-fault =
+        let f = parts-few (getD s at 0) x (w .code .row) in
+        let two : x .parts ≡ 2 = omega (arith, w .some-parts, w .not-one) in
+        let m : after s (d - 1) from ≡ l .masks .next = sym (ap (λ (p : Masks). p .next) (w .left .0)) in
+        let e = times-both (judge s named (d - 1)) from (l .masks .next) (λ a q. judge-next s named (d - 1) from a q ∙ m) in
+        rw (w .left .1, w .right .1) (sym (marked-then (judge s named (d - 1) from) (judge s named (d - 1) (l .masks .next)))
+        ∙ as-marked e ∙ rw two)
 
-      pub beside-found : (z : Judged) (wp wq : ℕ) → getD s at 0 ≡ 7 → wp ≡ getD s (at + 1) 0 → wq ≡ getD s (at + 2) 0
-          → wp < 256 → wq < 256 → BesideFound at wp wq l r z → Found s (uses s main) d at z
-      beside-found z wp wq e ep eq lp lq ez =
-          let t : Bool = rightSides wp wq (l .masks) (r .masks) in
-          let right : rightHere (partAt s (uses s main) d at) ≡ t
-          = here-beside s main d at hd wp wq (l .masks) (r .masks) e ep eq (el .0 ∙ rw ex) (er .0) in (
-            ez .0 ∙ masks-beside s (uses s main) d at hd h x ex (l .masks) (el .0) (r .masks) (er .0) n0 n1 wp wq e ep eq lp lq,
-            ez .1 ∙ rw both-fault (sym (judge-step s (uses s main) d at hd h t right ∙ rw ex)),
-          )
+    pub both-found : (z : Judged) → (getD s at 0 ≡ 7 → ⊥) → BothFound l r z → Found s (uses s main) d at z
+    unfolding named
+    both-found z n7 ez = (
+      ez .0 ∙ masks-both s (uses s main) d at (w .code .deep) (w .code .inside) x (w .code .row) (l .masks) (w .left .0) (r .masks)
+          (w .right .0) (w .some-parts) (w .not-one) n7,
+      ez .1 ∙ both-fault ∙ as-marked (other-step (w .code) n7),
+    )
+
+    pub beside-found : (z : Judged) (wp wq : ℕ) → getD s at 0 ≡ 7 → wp ≡ getD s (at + 1) 0 → wq ≡ getD s (at + 2) 0
+        → wp < 256 → wq < 256 → BesideFound (at + 1) wp wq l r z → Found s (uses s main) d at z
+    unfolding named from
+    beside-found z wp wq e ep eq lp lq ez =
+        let k = w .code in
+        let t : Bool = rightSides wp wq (l .masks) (r .masks) in
+        let right : rightHere (partAt s (uses s main) d at) ≡ t
+        = here-beside s main d at (k .deep) wp wq (l .masks) (r .masks) e ep eq (w .left .0 ∙ rw (k .row)) (w .right .0) in (
+          ez .0 ∙ masks-beside s (uses s main) d at (k .deep) (k .inside) x (k .row) (l .masks) (w .left .0) (r .masks) (w .right .0)
+              (w .some-parts) (w .not-one) wp wq e ep eq lp lq,
+          ez .1
+              ∙ rw (both-fault, judge-step s (uses s main) d at (k .deep) (k .inside) t right)
+              (marked-cond t (readTimes (x .parts) (judge s named (d - 1)) from) at ∙ rw (k .row)),
+        )
 
 -- ---- the bodies
 
 module _ (s : List ℕ) (x n : ℕ) (en : n ≡ lengthAt s x) where
-  pub judge-open : n ≡ 0 → Next 0 ≡ judgeEntry s x
+  pub judge-open : n ≡ 0 → 0 ≡ marked (judgeEntry s x)
   unfolding judgeEntry
   judge-open z = rw (eq-eqb (lengthAt s x) 0 (sym en ∙ z))
 
-  pub fit-open : n ≡ 0 → Next 0 ≡ fitEntry s x
+  pub fit-open : n ≡ 0 → 0 ≡ marked (fitEntry s x)
   unfolding fitEntry
   fit-open z = rw (eq-eqb (lengthAt s x) 0 (sym en ∙ z))
 
   module _ (z : n ≡ 0 → ⊥) (main : Bool) (at : ℕ) (em : main ≡ eqb x 0) (ea : at ≡ bodyStart s x) where
-    pub judge-body : (r : Reading) → r ≡ judge s (uses s main) mostDepth at → r ≡ judgeEntry s x
+    pub judge-body : (r : ℕ) → r ≡ marked (judge s (uses s main) mostDepth at) → r ≡ marked (judgeEntry s x)
     unfolding judgeEntry
     judge-body r e = e ∙ rw (ne-eqb (lengthAt s x) 0 (λ q. z (en ∙ q)), em, ea)
 
-    pub fit-body : (p : Masks) (r w : ℕ) (f : Reading) → p ≡ masksAt s (uses s main) mostDepth at → r ≡ readsAt s x → w ≡ writesAt s x
-        → f ≡ fitIf (fitMasked r w p) at → f ≡ fitEntry s x
+    pub fit-body : (p : Masks) (r w f : ℕ) (t : Bool) → p ≡ masksAt s (uses s main) mostDepth at → r ≡ readsAt s x → w ≡ writesAt s x
+        → t ≡ fitMasked r w p → f ≡ cond t 0 (at + 1) → f ≡ marked (fitEntry s x)
     unfolding fitEntry
-    fit-body p r w f ep er ew e = e ∙ rw (ne-eqb (lengthAt s x) 0 (λ q. z (en ∙ q)), er, ew, ep, em, ea)
+    fit-body p r w f t ep er ew et e =
+        e ∙ rw (ne-eqb (lengthAt s x) 0 (λ q. z (en ∙ q)), et, er, ew, ep, em, ea)
+        (marked-cond (fitMasked (readsAt s x) (writesAt s x) (masksAt s (uses s (eqb x 0)) mostDepth (bodyStart s x))) (Next 0)
+        (bodyStart s x))
 
 -- ---- the bodies in turn: what is left from entry x on, where the first body so far that does not fit is kept
 
-abbrev pub faultFrom : List ℕ → ℕ → ℕ → Reading → Reading
-faultFrom s n x unfit = firstOf (inTurn (judgeEntry s) n x) (firstOf unfit (inTurn (fitEntry s) n x))
+abbrev pub faultFrom : List ℕ → ℕ → ℕ → ℕ → ℕ
+faultFrom s n x unfit = firstOf (marked (inTurn (judgeEntry s) n x)) (firstOf unfit (marked (inTurn (fitEntry s) n x)))
 
 -- the fault of a whole book
-abbrev pub faultOf : List ℕ → Reading
-faultOf s = faultFrom s (suc (tablesOf s)) 0 (Next 0)
+abbrev pub faultOf : List ℕ → ℕ
+faultOf s = faultFrom s (suc (tablesOf s)) 0 0
 
-in-turn : (f : ℕ → Reading) (n x : ℕ) → x < n → inTurn f (n - x) x ≡ andThen (f x) (λ a. inTurn f (n - (x + 1)) (x + 1))
+in-turn : (f : ℕ → Reading) (n x : ℕ) → x < n
+    → marked (inTurn f (n - x) x) ≡ firstOf (marked (f x)) (marked (inTurn f (n - (x + 1)) (x + 1)))
 unfolding inTurn
-in-turn f n x h = turn-more f (inTurn f) (λ n x. refl) n x h
-
-then-then : (a b c : Reading) → firstOf a (firstOf b c) ≡ firstOf (firstOf a b) c
-then-then (Next i) b c = refl
-then-then (Wrong i) b c = refl
+in-turn f n x h =
+    as-marked (sym (turn-more f (inTurn f) (λ n x. refl) n x h))
+    ∙ marked-then (f x) (inTurn f (n - (x + 1)) (x + 1))
 
 module _ (s : List ℕ) where
-  pub faults-start : (m : ℕ) → m ≡ tablesOf s → faultOf s ≡ faultFrom s (suc m - 0) 0 (Next 0)
+  pub faults-start : (m : ℕ) → m ≡ tablesOf s → faultOf s ≡ faultFrom s (suc m - 0) 0 0
   faults-start m e = rw (e, sub-zero)
 
-  module _ (n x : ℕ) (unfit : Reading) where
-    faults-end : n ≤ x → faultFrom s (n - x) x unfit ≡ firstOf unfit (Next 0)
+  module _ (n x unfit : ℕ) where
+    pub faults-end : n ≤ x → faultFrom s (n - x) x unfit ≡ unfit
     unfolding inTurn
-    faults-end h = let e : n - x ≡ 0 = omega arith in rw e
+    faults-end h = let e : n - x ≡ 0 = omega arith in rw e (first-alone unfit)
 
-    pub unfit-left : n ≤ x → (at : ℕ) → unfit ≡ Wrong at → faultFrom s (n - x) x unfit ≡ Wrong at
-    unfit-left h at q = faults-end h ∙ rw q
+    module _ (h : x < n) (parts : ℕ) (ep : parts ≡ marked (judgeEntry s x)) where
+      pub faults-stop : (parts ≡ 0 → ⊥) → faultFrom s (n - x) x unfit ≡ parts
+      faults-stop q =
+          rw (in-turn (judgeEntry s) n x h, ← ep)
+          (stops parts q (marked (inTurn (judgeEntry s) (n - (x + 1)) (x + 1))) (firstOf unfit (marked (inTurn (fitEntry s) (n - x) x))))
 
-    pub none-left : n ≤ x → (a : ℕ) → unfit ≡ Next a → faultFrom s (n - x) x unfit ≡ Next 0
-    none-left h a q = faults-end h ∙ rw q
-
-    module _ (h : x < n) (parts : Reading) (ep : parts ≡ judgeEntry s x) where
-      pub faults-stop : (at : ℕ) → parts ≡ Wrong at → faultFrom s (n - x) x unfit ≡ Wrong at
-      faults-stop at q = rw (in-turn (judgeEntry s) n x h, ← ep, q)
-
-      pub faults-step : (a : ℕ) (body u : Reading) → parts ≡ Next a → body ≡ fitEntry s x → u ≡ firstOf unfit body
+      pub faults-step : (body u : ℕ) → parts ≡ 0 → body ≡ marked (fitEntry s x) → u ≡ firstOf unfit body
           → faultFrom s (n - x) x unfit ≡ faultFrom s (n - (x + 1)) (x + 1) u
-      faults-step a body u q eb eu =
+      faults-step body u q eb eu =
           rw (in-turn (judgeEntry s) n x h, ← ep, q, in-turn (fitEntry s) n x h, ← eb, eu)
-          (ap (firstOf (inTurn (judgeEntry s) (n - (x + 1)) (x + 1)))
-          (then-then unfit body (inTurn (fitEntry s) (n - (x + 1)) (x + 1))))
+          (ap (firstOf (marked (inTurn (judgeEntry s) (n - (x + 1)) (x + 1))))
+          (first-first unfit body (marked (inTurn (fitEntry s) (n - (x + 1)) (x + 1)))))

@@ -1,5 +1,5 @@
 -- The typing as it is judged on the bytes: masks of eight bits, and each fault at the place where the bytes have it.
-use Prim.Native.Nat.{ℕ, zero, suc, _%_}
+use Prim.Native.Nat.{ℕ, zero, suc, _+_, _%_}
 use mathlib.Core.Path.{_≡_}
 use mathlib.Core.Bool.{Bool, true, cond}
 use mathlib.Core.List.{List}
@@ -48,13 +48,19 @@ judge s named (suc d) at =
     cond (ltb at (length s))
     (cond (rightHere (partAt s named (suc d) at)) (readTimes (partsOf (getD s at 0)) (judge s named d) (below s at)) (Wrong at)) (Next at)
 
--- what one walk finds of the part at a place
-abbrev pub Found : List ℕ → (ℕ → Part) → ℕ → ℕ → Judged → Type 0
-Found s named d at j = (j .masks ≡ masksAt s named d at) × (j .fault ≡ judge s named d at)
+-- a fault as one number: 0 where there is none, else one more than its place
+abbrev pub marked : Reading → ℕ
+marked (Next a) = 0
+marked (Wrong at) = at + 1
 
 -- of two faults, the first in book order
-abbrev pub firstOf : Reading → Reading → Reading
-firstOf l r = andThen l (λ a. r)
+abbrev pub firstOf : ℕ → ℕ → ℕ
+firstOf zero b = b
+firstOf (suc a) b = suc a
+
+-- what one walk finds of the part at a place
+abbrev pub Found : List ℕ → (ℕ → Part) → ℕ → ℕ → Judged → Type 0
+Found s named d at j = (j .masks ≡ masksAt s named d at) × (j .fault ≡ marked (judge s named d at))
 
 -- what is found of a sum or a sequence: the unions of the masks
 abbrev pub BothFound : Judged → Judged → Judged → Type 0
@@ -64,19 +70,16 @@ BothFound l r j =
     (j .masks ≡ record { tests = bitOr (p .tests) (q .tests); writes = bitOr (p .writes) (q .writes); next = q .next })
     × (j .fault ≡ firstOf (l .fault) (r .fault))
 
--- of a concurrent part at a place: it writes by its own masks, and if it is not right, it comes before the faults below it
+-- of a concurrent part: it writes by its own masks, and if it is not right, its own fault comes before those below it
 abbrev pub rightSides : ℕ → ℕ → Masks → Masks → Bool
 rightSides wp wq p q = rightMasks wp wq (p .tests) (p .writes) (q .tests) (q .writes)
 
-abbrev pub firstAt : ℕ → Bool → Reading → Reading
-firstAt at right below = cond right below (Wrong at)
-
 abbrev pub BesideFound : ℕ → ℕ → ℕ → Judged → Judged → Judged → Type 0
-BesideFound at wp wq l r j =
+BesideFound own wp wq l r j =
     let p = l .masks in
     let q = r .masks in
     (j .masks ≡ record { tests = bitOr (p .tests) (q .tests); writes = bitOr wp wq; next = q .next })
-    × (j .fault ≡ firstAt at (rightSides wp wq p q) (firstOf (l .fault) (r .fault)))
+    × (j .fault ≡ cond (rightSides wp wq p q) (firstOf (l .fault) (r .fault)) own)
 
 -- the body of entry x: its concurrent parts, and whether it fits; an entry with no body has no fault
 unfoldable pub judgeEntry : List ℕ → ℕ → Reading
@@ -85,13 +88,11 @@ judgeEntry s x = cond (eqb (lengthAt s x) 0) (Next 0) (judge s (uses s (eqb x 0)
 abbrev pub fitMasked : ℕ → ℕ → Masks → Bool
 fitMasked r w p = fitMasks r w (p .tests) (p .writes)
 
-abbrev pub fitIf : Bool → ℕ → Reading
-fitIf t start = cond t (Next 0) (Wrong start)
-
 unfoldable pub fitEntry : List ℕ → ℕ → Reading
 fitEntry s x =
     cond (eqb (lengthAt s x) 0) (Next 0)
-    (fitIf (fitMasked (readsAt s x) (writesAt s x) (masksAt s (uses s (eqb x 0)) mostDepth (bodyStart s x))) (bodyStart s x))
+    (cond (fitMasked (readsAt s x) (writesAt s x) (masksAt s (uses s (eqb x 0)) mostDepth (bodyStart s x))) (Next 0)
+    (Wrong (bodyStart s x)))
 
 -- n entries from x on, up to the first fault
 unfoldable pub inTurn : (ℕ → Reading) → ℕ → ℕ → Reading

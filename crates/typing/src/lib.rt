@@ -1,8 +1,8 @@
 // The two masks of a part and the number 7 from one walk, and the whole verdict on a book.
-use rules::Reading;
 use rules::Refusal;
 use rules::Verdict;
 ghost use mathlib.Core.Path.{_≡_};
+ghost use mathlib.Core.Bool.{cond};
 ghost use Prim.Native.Nat.{_<_};
 ghost use lib.ListN.{getD, length};
 ghost use Rattle.rules.specs.Codes.{partsOf};
@@ -10,8 +10,8 @@ ghost use Rattle.rules.specs.Masks.{field};
 ghost use Rattle.rules.specs.Parts.{Id};
 ghost use Rattle.rules.specs.Reading.{built, verdict};
 ghost use Rattle.book.specs.Counting.{uses};
-ghost use Rattle.typing.specs.Judging.{low, masksOf, rightSides, firstOf, firstAt, BothFound, BesideFound};
-ghost use Rattle.typing.specs.Judging.{Found, judgeEntry, fitMasked, fitIf, fitEntry};
+ghost use Rattle.typing.specs.Judging.{low, masksOf, marked, firstOf, rightSides, BothFound, BesideFound};
+ghost use Rattle.typing.specs.Judging.{Found, judgeEntry, fitMasked, fitEntry};
 
 // Fields tested, fields that may be written, and the place after the part.
 pub struct Masks {
@@ -21,9 +21,10 @@ pub struct Masks {
 }
 
 // What one walk finds of a part: its masks, and its first concurrent part in book order that is not right.
+// A fault is one more than the place, and 0 where there is none: a number goes through a walk faster than an enum does.
 pub struct Judged {
     pub masks: Masks,
-    pub fault: Reading,
+    pub fault: usize,
 }
 
 // The mask of one field, of the first eight.
@@ -100,20 +101,17 @@ fn right_masks(wp: u8, wq: u8, p: Masks, q: Masks) -> bool
 }
 
 // The first fault of two, one after the other.
-fn first_of(a: Reading, b: Reading) -> Reading
+fn first_of(a: usize, b: usize) -> usize
     ensures { λ r. ⌜ r ≡ firstOf a b ⌝ }
 {
-    match a {
-        Reading::Next(_) => b,
-        Reading::Wrong(_) => a,
-    }
+    if a == 0 { b } else { a }
 }
 
-// The first fault of a concurrent part at a place: itself, if it is not right, before those below it.
-fn first_at(at: usize, right: bool, below: Reading) -> Reading
-    ensures { λ r. ⌜ r ≡ firstAt at right below ⌝ }
+// A fault, unless what was asked is right; then those below it.
+fn unless_right(right: bool, below: usize, own: usize) -> usize
+    ensures { λ r. ⌜ r ≡ cond right below own ⌝ }
 {
-    if right { below } else { Reading::Wrong(at) }
+    if right { below } else { own }
 }
 
 // A sum or a sequence: the unions of the masks.
@@ -122,39 +120,36 @@ fn both(left: Judged, right: Judged) -> Judged
 {
     let p = left.masks;
     let q = right.masks;
-    let a = left.fault;
-    let b = right.fault;
     Judged {
         masks: Masks {
             tests: p.tests | q.tests,
             writes: p.writes | q.writes,
             next: q.next,
         },
-        fault: first_of(a, b),
+        fault: first_of(left.fault, right.fault),
     }
 }
 
-// A concurrent part at a place writes by its own masks, also where it is not right.
-fn beside(at: usize, wp: u8, wq: u8, left: Judged, right: Judged) -> Judged
-    ensures { λ r. ⌜ BesideFound at wp wq left right r ⌝ }
+// A concurrent part, by its own fault if it is not right. It writes by its own masks, also where it is not.
+fn beside(own: usize, wp: u8, wq: u8, left: Judged, right: Judged) -> Judged
+    ensures { λ r. ⌜ BesideFound own wp wq left right r ⌝ }
 {
     let p = left.masks;
     let q = right.masks;
-    let a = left.fault;
-    let b = right.fault;
+    let below = first_of(left.fault, right.fault);
     Judged {
         masks: Masks {
             tests: p.tests | q.tests,
             writes: wp | wq,
             next: q.next,
         },
-        fault: first_at(at, right_masks(wp, wq, p, q), first_of(a, b)),
+        fault: unless_right(right_masks(wp, wq, p, q), below, own),
     }
 }
 
 // Where no part stands, nothing is tested, written or wrong.
 fn nothing(at: usize) -> Judged
-    ensures { λ r. ⌜ (r .masks ≡ record { tests = 0; writes = 0; next = at }) × (r .fault ≡ Reading.Next at) ⌝ }
+    ensures { λ r. ⌜ (r .masks ≡ record { tests = 0; writes = 0; next = at }) × (r .fault ≡ 0) ⌝ }
 {
     Judged {
         masks: Masks {
@@ -162,7 +157,7 @@ fn nothing(at: usize) -> Judged
             writes: 0,
             next: at,
         },
-        fault: Reading::Next(at),
+        fault: 0,
     }
 }
 
@@ -183,7 +178,7 @@ fn judge_part(s: &[u8], main: bool, at: usize, depth: usize) -> Judged
     if parts == 0 {
         return Judged {
             masks: leaf_masks(s, main, at, from),
-            fault: Reading::Next(from),
+            fault: 0,
         };
     }
     let left = judge_part(s, main, from, depth - 1);
@@ -194,7 +189,7 @@ fn judge_part(s: &[u8], main: bool, at: usize, depth: usize) -> Judged
     let right = judge_part(s, main, middle, depth - 1);
     if code == 7 {
         return beside(
-            at,
+            at + 1,
             book::byte_at(s, at + 1),
             book::byte_at(s, at + 2),
             left,
@@ -204,47 +199,38 @@ fn judge_part(s: &[u8], main: bool, at: usize, depth: usize) -> Judged
     both(left, right)
 }
 
-// A body that starts at a place fits (R, W) if T lies in R and W together and M lies in W.
-fn fit(start: usize, r: u8, w: u8, p: Masks) -> Reading
-    ensures { λ f. ⌜ f ≡ fitIf (fitMasked r w p) start ⌝ }
+// A body fits (R, W) if T lies in R and W together and M lies in W.
+fn fit_masks(r: u8, w: u8, p: Masks) -> bool
+    ensures { λ b. ⌜ b ≡ fitMasked r w p ⌝ }
 {
     let all = r | w;
     if p.tests | all != all {
-        return Reading::Wrong(start);
+        return false;
     }
-    if p.writes | w != w {
-        return Reading::Wrong(start);
-    }
-    Reading::Next(0)
+    p.writes | w == w
 }
 
 // What one body has against it: a concurrent part that is not right, and that the body does not fit.
 pub struct Faults {
-    pub parts: Reading,
-    pub body: Reading,
+    pub parts: usize,
+    pub body: usize,
 }
 
 // Both faults of the body of entry x; a table that is not populated has none.
 fn entry_faults(book: &[u8], x: u8) -> Faults
-    ensures { λ r. ⌜ (r .parts ≡ judgeEntry (now (book .entry)) x) × (r .body ≡ fitEntry (now (book .entry)) x) ⌝ }
+    ensures { λ r. ⌜ (r .parts ≡ marked (judgeEntry (now (book .entry)) x)) × (r .body ≡ marked (fitEntry (now (book .entry)) x)) ⌝ }
 {
     if book::length_of(book, x) == 0 {
-        return Faults {
-            parts: Reading::Next(0),
-            body: Reading::Next(0),
-        };
+        return Faults { parts: 0, body: 0 };
     }
     let start = book::body_start(book, x);
     let found = judge_part(book, x == 0, start, 32);
     let masks = found.masks;
-    let parts = found.fault;
-    let body = fit(
-        start,
-        book::reads_of(book, x),
-        book::writes_of(book, x),
-        masks,
-    );
-    Faults { parts, body }
+    let fits = fit_masks(book::reads_of(book, x), book::writes_of(book, x), masks);
+    Faults {
+        parts: found.fault,
+        body: unless_right(fits, 0, start + 1),
+    }
 }
 
 // The verdict on a book: the numbers 1 to 7 in their order, or its sizes. The first wrong concurrent part ends the loop;
@@ -257,20 +243,19 @@ pub fn accept(book: &[u8]) -> Verdict
         return form;
     };
     let m = book::byte_at(book, 1) as usize;
-    let mut unfit = Reading::Next(0);
+    let mut unfit: usize = 0;
     let mut x: usize = 0;
     while x <= m {
         let faults = entry_faults(book, x as u8);
         let parts = faults.parts;
-        let body = faults.body;
-        if let Reading::Wrong(at) = parts {
-            return Verdict::Refused(Refusal::Typing(at));
+        if parts != 0 {
+            return Verdict::Refused(Refusal::Typing(parts - 1));
         }
-        unfit = first_of(unfit, body);
+        unfit = first_of(unfit, faults.body);
         x += 1;
     }
-    if let Reading::Wrong(at) = unfit {
-        return Verdict::Refused(Refusal::Typing(at));
+    if unfit != 0 {
+        return Verdict::Refused(Refusal::Typing(unfit - 1));
     }
     form
 }

@@ -6,8 +6,8 @@ use Rattle.typing.proofs.beside.Tie as tie
 
 returns : tie.Need-returns
 returns c =
-    let at-first-of = c .before in
-    (search needs, c .first-at .ensures ∙ rw (at-first-of .before .right-masks .ensures, at-first-of .first-of .ensures))
+    let at-right = c .before in
+    (search needs, c .unless-right .ensures ∙ rw (at-right .right-masks .ensures, at-right .before .before .before .first-of .ensures))
 
 pub beside-spec : {M : Type 1} → statement M
 beside-spec = tie.close (tie.spec (λ c κs. search needs) (λ c κs. search needs) (λ c κs. search needs) returns)

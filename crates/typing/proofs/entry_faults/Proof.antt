@@ -12,7 +12,8 @@ returns c =
 
 returns-2 : tie.Need-returns-2
 returns-2 c =
-    let at-writes = c .before in
+    let at-fits = c .before in
+    let at-writes = at-fits .before in
     let at-reads = at-writes .before in
     let at-found = at-reads .before .before in
     let at-start = at-found .before in
@@ -20,8 +21,8 @@ returns-2 c =
     let size = at-if1 .before .length-of .ensures .0 in
     let start = at-start .body-start .ensures .0 in (
       judge-body _ _ _ size (at-if1 .if1 .left) _ _ refl start _ (at-found .judge-part .ensures .1),
-      fit-body _ _ _ size (at-if1 .if1 .left) _ _ refl start _ _ _ _ (at-found .judge-part .ensures .0) (at-reads .reads-of .ensures)
-          (at-writes .writes-of .ensures) (c .fit .ensures),
+      fit-body _ _ _ size (at-if1 .if1 .left) _ _ refl start _ _ _ _ _ (at-found .judge-part .ensures .0) (at-reads .reads-of .ensures)
+          (at-writes .writes-of .ensures) (at-fits .fit-masks .ensures) (c .unless-right .ensures),
     )
 
 pub entry-faults-spec : {M : Type 1} → statement M
@@ -34,5 +35,7 @@ entry-faults-spec =
     (λ c κs. search needs)
     (λ c κs. search needs)
     (λ c κs. search needs)
+    (λ c κs. search needs)
+    (λ c. search needs)
     (λ c κs. search needs)
     returns-2)
