@@ -23,17 +23,16 @@ use Rattle.rules.specs.Working.{out, steps, room, width}
 use Rattle.rules.specs.Answers.{startSet, given, outcome, evaluated, evaluatedResult, overwritten}
 use Rattle.rules.proofs.Answering.{Granted, not-given-keeps, evaluated-refused, evaluated-packet, evaluated-buffer, evaluated-open, evaluated-wide, evaluated-given}
 use Rattle.rules.proofs.AcceptedBooks.{accepted-sizes, accepted-fields, accepted-parts, accepted-deep}
-use Rattle.packets.specs.declared.PacketSet.{PacketSet}
-use Rattle.packets.specs.Rows.{Whole, Is, rows}
+use Rattle.rows.specs.Chunks.{chunks, Held}
 use Rattle.rows.specs.Areas.{Emitted}
 use Rattle.evaluator.specs.Work.{namedIn, partIn, Fair, Did, Sees, Answers}
 use Rattle.evaluator.specs.declared.Worked.{Worked}
 use Rattle.evaluator.specs.declared.Looked.{Looked}
-use Rattle.evaluator.proofs.WorkLaws.{rows-few, length-rows}
+use Rattle.rows.proofs.Fillings.{held-self, held-count, held-few}
 
 -- what is answered beside the packets
 abbrev pub outcomeOf : Worked → Sizes → Outcome
-outcomeOf w z = record { count = w .set .count; steps = w .steps; parts = z .parts; deep = z .deep; room = w .room }
+outcomeOf w z = record { count = w .count; steps = w .steps; parts = z .parts; deep = z .deep; room = w .room }
 
 -- the words of a set fit into 16 · k
 values-few : (k : ℕ) (s : Packets) → length (valuesOf k s) ≤ length s * k
@@ -77,7 +76,7 @@ module _ (s p b : List ℕ) where
         pub unpopulated : namesOpen (mainOf s) ≡ true → Answers s p b b (NotGiven Unpopulated)
         unpopulated e = not-given s p b Unpopulated (evaluated-open s p (length b) z says (long ∙ fields-are s z says) enough e)
 
-        module _ (closed : namesOpen (mainOf s) ≡ false) {m n : ℕ} {w : Worked} (d : Did (mainOf s) m (startSet p) n w) where
+        module _ (closed : namesOpen (mainOf s) ≡ false) {n : ℕ} {v : List ℕ} {w : Worked} (d : Did (mainOf s) (startSet p) n v w) where
           pub too-wide-is : w .wide ≡ true → Answers s p b b (NotGiven TooWide)
           too-wide-is e =
               not-given s p b TooWide (evaluated-wide s p (length b) z says (long ∙ fields-are s z says) enough closed (d .over e))
@@ -94,18 +93,18 @@ module _ (s p b : List ℕ) where
           within : w .wide ≡ false → evaluated s p (length b) ≡ Given (outcome s p)
           within e = evaluated-given s p (length b) (granted e) enough
 
-          pub given-is : w .wide ≡ false → (f : Bool) (o : List ℕ) → Emitted f (valuesOf (z .fields) (rows (w .set))) b o
+          pub given-is : w .wide ≡ false → (f : Bool) (o : List ℕ) → Emitted f (valuesOf (z .fields) (chunks (w .count) v)) b o
               → Answers s p b o (Given (outcomeOf w z))
           unfolding evaluatedResult overwritten given outcome sizesOf
           given-is e f o m =
               let g = d .fine e in
               let y = accepted-sizes s z says in
-              let few = values-few (z .fields) (rows (w .set)) in
-              let c : length (rows (w .set)) ≤ mostPackets = rows-few (w .set) (g .set .whole) in
+              let few = values-few (z .fields) (chunks (w .count) v) in
+              let c : length (chunks (w .count) v) ≤ mostPackets = held-few (held-self (g .held .packed)) in
               let t : f ≡ true = m .fits ∙ le-leb _ _ (fits-in (z .fields) _ _ few c space) in
-              let n : w .set .count ≡ length (out (mainOf s) (startSet p)) = sym (length-rows (w .set)) ∙ ap length (g .set .same) in (
+              let n : w .count ≡ length (out (mainOf s) (startSet p)) = held-count (g .held) in (
                 rw (within e, n, g .steps, g .room, y),
-                m .words ∙ rw (within e, t, fields-are s z says, g .set .same),
+                m .words ∙ rw (within e, t, fields-are s z says, g .held .same),
               )
 
 -- the main policy, where its body starts
@@ -119,16 +118,10 @@ module _ (s : List ℕ) (start : ℕ) (e : start ≡ bodyStart s 0) where
   open-is k = rw (← e) (sym (k .found))
 
   -- what evaluation of the main policy asks of an accepted book
-  pub main-fair : (z : Sizes) (ps : PacketSet) → verdict s ≡ Accepted z → namesOpen (mainOf s) ≡ false → Whole ps
-      → Fair (partIn s true mostDepth start) ps
-  main-fair z ps v closed k =
-      rw (main-is s start e) (record {
-        few = accepted-parts s z v;
-        shallow = accepted-deep s z v;
-        closed = closed;
-        whole = k;
-      })
+  pub main-fair : (z : Sizes) → verdict s ≡ Accepted z → namesOpen (mainOf s) ≡ false → Fair (partIn s true mostDepth start)
+  main-fair z v closed =
+      rw (main-is s start e) (record { few = accepted-parts s z v; shallow = accepted-deep s z v; closed = closed })
 
-  pub main-did : (p : List ℕ) (ps : PacketSet) {m n : ℕ} {w : Worked} → Is ps m (startSet p)
-      → Did (partIn s true mostDepth start) (ps .mask) (rows ps) n w → Did (mainOf s) (ps .mask) (startSet p) n w
-  main-did p ps k d = rw (main-is s start e, k .same) at d
+  pub main-did : (p : List ℕ) {x v : List ℕ} {m n : ℕ} {w : Worked} → Held x m (startSet p)
+      → Did (partIn s true mostDepth start) (chunks m x) n v w → Did (mainOf s) (startSet p) n v w
+  main-did p k d = rw (main-is s start e, k .same) at d

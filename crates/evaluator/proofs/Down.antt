@@ -1,23 +1,21 @@
 -- The cycle of calls: what passes down, what falls, and what comes back up.
 use Prim.Native.Nat.{ℕ, _+_, _-_, _*_, _≤_, _<_}
 use native.Mathlib.Omega.{arith}
-use native.Mathlib.Numerals.{add-one}
-use mathlib.Core.Path.{_≡_, refl, sym, ap, _∙_}
+use mathlib.Core.Path.{_≡_, refl, ap, _∙_}
 use mathlib.Core.Bool.{Bool, true, false, _||_}
 use mathlib.Core.List.{List, [], _∷_}
-use lib.ListN.{length, getD, length-drop}
-use lib.Seq.{drop-cons, drop-length}
+use lib.ListN.{length, drop, length-drop}
 use Rattle.rules.specs.Packets.{Packet, Packets, without, union, pairs, mostPackets}
 use Rattle.rules.specs.Parts.{Part, Not, Sum, Seq, Beside, Table, parts, deep, namesOpen}
 use Rattle.rules.specs.Reading.{partAt, after}
 use Rattle.rules.specs.Working.{each, out, steps, room, own, width}
 use Rattle.rules.proofs.Bounds.{limit, room-steps, handed, width-one, width-more}
-use Rattle.packets.specs.declared.PacketSet.{PacketSet}
-use Rattle.packets.specs.declared.Made.{Made}
-use Rattle.packets.specs.Rows.{Whole, Is, Gives, rows}
-use Rattle.evaluator.specs.Work.{Fair, Fine, Did, Small, Joins, rowsFrom}
+use Rattle.rows.specs.Chunks.{chunks, rowAt, Packed, Held, Fits}
+use Rattle.rows.proofs.Chunks.{length-chunks, rows-at, rows-done}
+use Rattle.rows.proofs.Fillings.{held-few}
+use Rattle.evaluator.specs.Work.{Fair, Fine, Did, Small, Joins}
 use Rattle.evaluator.specs.declared.Worked.{Worked}
-use Rattle.evaluator.proofs.WorkLaws.{no, did-over, is-few, length-rows}
+use Rattle.evaluator.proofs.WorkLaws.{no, did-over}
 use Rattle.evaluator.proofs.Decoder.{Stands}
 
 -- ---- down
@@ -69,212 +67,194 @@ module _ {p q : Part} where
   unfolding parts deep namesOpen
   beside-right = record { less = omega arith; shallow = omega arith; closed = or-right (namesOpen p) _ }
 
-pub fair-under : {p q : Part} {s s′ : PacketSet} → Under p q → Fair q s → Whole s′ → Fair p s′
-fair-under u f k = record {
-  few = omega (arith, u .less, f .few);
-  shallow = omega (arith, u .shallow, f .shallow);
-  closed = u .closed (f .closed);
-  whole = k;
-}
+pub fair-under : {p q : Part} → Under p q → Fair q → Fair p
+fair-under u f =
+    record { few = omega (arith, u .less, f .few); shallow = omega (arith, u .shallow, f .shallow); closed = u .closed (f .closed) }
 
 -- what a call of evaluate_part on a part below asks: 20 for each part, so that the packets left fit between
-pub down : {p q : Part} {s s′ : PacketSet} (t : ℕ) → Under p q → 20 * parts q ≡ t → Fair q s → Whole s′
-    → (20 * parts p + 19 < t) × Fair p s′
-down t u e f k = (omega (arith, u .less), fair-under u f k)
+pub down : {p q : Part} {v : List ℕ} {n : ℕ} (t : ℕ) → Under p q → 20 * parts q ≡ t → Fair q → Packed v n
+    → (20 * parts p + 19 < t) × (Fair p × Packed v n)
+down t u e f k = (omega (arith, u .less), (fair-under u f, k))
 
-pub down-table : {p q : Part} {s : PacketSet} {x r w start : ℕ} (t : ℕ) → p ≡ Table x r w start q → 20 * parts p ≡ t → Fair p s
-    → (20 * parts q + 19 < t) × Fair q s
-down-table t e h f = down t under-table (rw e at h) (rw e at f) (f .whole)
+pub down-table : {p q : Part} {v : List ℕ} {n x r w start : ℕ} (t : ℕ) → p ≡ Table x r w start q → 20 * parts p ≡ t → Fair p → Packed v n
+    → (20 * parts q + 19 < t) × (Fair q × Packed v n)
+down-table t e h f k = down t under-table (rw e at h) (rw e at f) k
 
 -- what a call from evaluate_part asks
 module _ {s : List ℕ} {named : ℕ → Part} {d at : ℕ} {p : Part} {n : ℕ} (k : Stands s named d at p n) where
-  pub enter : {ps : PacketSet} (t : ℕ) → 20 * parts (partAt s named d at) + 19 ≡ t → Fair (partAt s named d at) ps
-      → (20 * parts p < t) × Fair p ps
-  enter t h f = (omega (arith, ap parts (k .part)), rw (k .part) at f)
+  pub enter : {v : List ℕ} {m : ℕ} (t : ℕ) → 20 * parts (partAt s named d at) + 19 ≡ t → Fair (partAt s named d at) → Packed v m
+      → (20 * parts p < t) × (Fair p × Packed v m)
+  enter t h f q = (omega (arith, ap parts (k .part)), (rw (k .part) at f, q))
 
-  pub enter-walk : {ps : PacketSet} (t : ℕ) → 20 * parts (partAt s named d at) + 19 ≡ t → Fair (partAt s named d at) ps
-      → (20 * parts p + 17 < t) × Fair p ps
-  enter-walk t h f = (omega (arith, ap parts (k .part)), rw (k .part) at f)
+  pub enter-beside : (t : ℕ) → 20 * parts (partAt s named d at) + 19 ≡ t → Fair (partAt s named d at) → (20 * parts p + 18 < t) × Fair p
+  enter-beside t h f = (omega (arith, ap parts (k .part)), rw (k .part) at f)
 
   -- the part there did what it stands for
-  pub did-there : {m : ℕ} {rs : Packets} {r : Worked} → Did p m rs n r → Did (partAt s named d at) m rs (after s d at) r
+  pub did-there : {rs : Packets} {v : List ℕ} {r : Worked} → Did p rs n v r → Did (partAt s named d at) rs (after s d at) v r
   did-there d = rw (k .part, k .next) d
 
 -- ---- up
 
-pub did-as : {p q : Part} {m : ℕ} {s : Packets} {n : ℕ} {r : Worked} → p ≡ q → Did q m s n r → Did p m s n r
+pub did-as : {p q : Part} {s : Packets} {n : ℕ} {v : List ℕ} {r : Worked} → p ≡ q → Did q s n v r → Did p s n v r
 did-as e d = rw e d
 
 -- what comes back is small, of the part itself and of one below it
-pub small-here : {p : Part} {s : PacketSet} {m : ℕ} {rs : Packets} {n : ℕ} {a : Worked} → Fair p s → Did p m rs n a → a .wide ≡ false
-    → Small a
-small-here {p} {s} {m} {rs} f d e =
+pub small-here : {p : Part} {rs : Packets} {n : ℕ} {v : List ℕ} {a : Worked} → Fair p → Did p rs n v a → a .wide ≡ false → Small a
+small-here {p} {rs} f d e =
     let g = d .fine e in
     let l = limit p rs (f .few) (f .shallow) (g .narrow) in
-    record { whole = g .set .whole; steps = omega (arith, l, g .steps); room = omega (arith, l, g .room, room-steps p rs) }
+    record { steps = omega (arith, l, g .steps); room = omega (arith, l, g .room, room-steps p rs) }
 
-pub small : {p q : Part} {s : PacketSet} {m : ℕ} {rs : Packets} {n : ℕ} {a : Worked} → Under p q → Fair q s → Did p m rs n a
-    → a .wide ≡ false → Small a
-small {s = s} u f d e = small-here (fair-under {s′ = s} u f (f .whole)) d e
+pub small : {p q : Part} {rs : Packets} {n : ℕ} {v : List ℕ} {a : Worked} → Under p q → Fair q → Did p rs n v a → a .wide ≡ false → Small a
+small u f d e = small-here (fair-under u f) d e
 
-pub small-table : {p q : Part} {s : PacketSet} {x r w start m : ℕ} {rs : Packets} {n : ℕ} {a : Worked} → p ≡ Table x r w start q → Fair p s
-    → Did q m rs n a → a .wide ≡ false → Small a
+pub small-table : {p q : Part} {x r w start : ℕ} {rs : Packets} {n : ℕ} {v : List ℕ} {a : Worked} → p ≡ Table x r w start q → Fair p
+    → Did q rs n v a → a .wide ≡ false → Small a
 small-table e f d = small under-table (rw e at f) d
 
 -- a part below that is too wide
-module _ {p : Part} {m : ℕ} {s : Packets} {n : ℕ} {a : Worked} (d : Did p m s n a) (e : a .wide ≡ true) {k : ℕ} where
-  pub over-not : Did (Not p) m s k a
+module _ {p : Part} {s : Packets} {n : ℕ} {v : List ℕ} {a : Worked} (d : Did p s n v a) (e : a .wide ≡ true) {k : ℕ} {w : List ℕ} where
+  pub over-not : Did (Not p) s k w a
   unfolding width
   over-not = did-over e (omega (arith, d .over e))
 
-  pub over-table : {x r w start : ℕ} → Did (Table x r w start p) m s k a
+  pub over-table : {x r w′ start : ℕ} → Did (Table x r w′ start p) s k w a
   unfolding width
   over-table = did-over e (omega (arith, d .over e))
 
-  pub over-sum-left : {q : Part} → Did (Sum p q) m s k a
+  pub over-sum-left : {q : Part} → Did (Sum p q) s k w a
   unfolding width
   over-sum-left = did-over e (omega (arith, d .over e))
 
-  pub over-sum-right : {q : Part} → Did (Sum q p) m s k a
+  pub over-sum-right : {q : Part} → Did (Sum q p) s k w a
   unfolding width
   over-sum-right = did-over e (omega (arith, d .over e))
 
-  pub over-seq-left : {q : Part} → Did (Seq p q) m s k a
+  pub over-seq-left : {q : Part} → Did (Seq p q) s k w a
   unfolding width
   over-seq-left = did-over e (omega (arith, d .over e))
 
 -- the part after one that was worked out starts where that one ended
-pub goes-on : {p : Part} {m m′ : ℕ} {rs rs′ : Packets} {a b : Worked} (s : List ℕ) (named : ℕ → Part) (d at : ℕ)
-    → Did p m rs (after s d at) a → a .wide ≡ false → Did (partAt s named d (a .next)) m′ rs′ (after s d (a .next)) b
-    → Did (partAt s named d (after s d at)) m′ rs′ (after s d (after s d at)) b
+pub goes-on : {p : Part} {rs rs′ : Packets} {v v′ : List ℕ} {a b : Worked} (s : List ℕ) (named : ℕ → Part) (d at : ℕ)
+    → Did p rs (after s d at) v a → a .wide ≡ false → Did (partAt s named d (a .next)) rs′ (after s d (a .next)) v′ b
+    → Did (partAt s named d (after s d at)) rs′ (after s d (after s d at)) v′ b
 goes-on s named n at d e b = rw (d .fine e .next) at b
 
+-- what was joined
+abbrev pub Joint : ℕ → Worked → Worked → Worked → Type 0
+Joint c a b r = (s : Packets) (v : List ℕ) → Fits v c s → Joins s v a b r
+
 -- sum
-pub did-sum : {p q : Part} {m : ℕ} {s : Packets} {n k : ℕ} {a b r : Worked} {g : Made}
-    → Did p m s n a → a .wide ≡ false → Did q m s k b → b .wide ≡ false
-    → ((m : ℕ) (s : Packets) → Gives g m s → Joins m s a b r)
-    → Gives g (a .set .mask) (union (rows (a .set)) (rows (b .set))) → Did (Sum p q) m s k r
+pub did-sum : {p q : Part} {s : Packets} {n k c : ℕ} {v w u : List ℕ} {a b r : Worked}
+    → Did p s n v a → a .wide ≡ false → Did q s k w b → b .wide ≡ false → Joint c a b r
+    → Fits u c (union (chunks (a .count) v) (chunks (b .count) w)) → Did (Sum p q) s k u r
 unfolding out steps room width own
-did-sum {p} {q} {m} {s} {n} {k} {a} {b} {r} {g} d e d′ e′ j u =
-    let f = d .fine e in
-    let f′ = d′ .fine e′ in
-    let u′ : Gives g m (union (out p s) (out q s)) = rw (f .set .same, f′ .set .same, f .set .fields) at u in
-    let i = j m (union (out p s) (out q s)) u′ in
+did-sum {p} {q} {s} {n} {k} {c} {v} {w} {u} {a} {b} {r} d e d′ e′ j f =
+    let g = d .fine e in
+    let g′ = d′ .fine e′ in
+    let i = j (union (out p s) (out q s)) u (rw (g .held .same, g′ .held .same) at f) in
     record {
       over = λ w. omega (arith, i .over w);
       fine = λ w. record {
-        narrow = omega (arith, is-few (i .set w), handed p s, f .narrow, f′ .narrow);
-        set = i .set w;
-        steps = i .steps w ∙ rw (f .steps, f′ .steps);
-        room = i .room w ∙ rw (f .room, f′ .room);
-        next = i .next w ∙ f′ .next;
+        narrow = omega (arith, held-few (i .held w), handed p s, g .narrow, g′ .narrow);
+        held = i .held w;
+        steps = i .steps w ∙ rw (g .steps, g′ .steps);
+        room = i .room w ∙ rw (g .room, g′ .room);
+        next = i .next w ∙ g′ .next;
       };
     }
 
 -- sequence: the second part on what the first gave
-module _ {p q : Part} {m : ℕ} {s : Packets} {n k : ℕ} {a b : Worked}
-    (d : Did p m s n a) (e : a .wide ≡ false) (d′ : Did q (a .set .mask) (rows (a .set)) k b) where
-  after-first : Did q m (out p s) k b
-  after-first = rw (d .fine e .set .fields, d .fine e .set .same) at d′
+module _ {p q : Part} {s : Packets} {n k : ℕ} {v w : List ℕ} {a b : Worked}
+    (d : Did p s n v a) (e : a .wide ≡ false) (d′ : Did q (chunks (a .count) v) k w b) where
+  after-first : Did q (out p s) k w b
+  after-first = rw (d .fine e .held .same) at d′
 
-  pub over-seq-right : b .wide ≡ true → Did (Seq p q) m s k b
+  pub over-seq-right : b .wide ≡ true → Did (Seq p q) s k w b
   unfolding width
-  over-seq-right w = did-over w (omega (arith, after-first .over w))
+  over-seq-right h = did-over h (omega (arith, after-first .over h))
 
   pub did-seq-at : {r : Worked} → b .wide ≡ false
-      → ((p q : Part) (m : ℕ) (s : Packets) (n k : ℕ) → Fine p m s n a → Fine q m (out p s) k b → Did (Seq p q) m s k r)
-      → Did (Seq p q) m s k r
-  did-seq-at w h = h p q m s n k (d .fine e) (after-first .fine w)
+      → ((p q : Part) (s : Packets) (n k : ℕ) (x v : List ℕ) → Fine p s n x a → Fine q (out p s) k v b → Did (Seq p q) s k v r)
+      → Did (Seq p q) s k w r
+  did-seq-at h f = f p q s n k v w (d .fine e) (after-first .fine h)
 
 -- what a part gives on one packet without some fields
-pub on-alone : {p : Part} {s : PacketSet} {m n : ℕ} {a : Worked} (w w′ : ℕ) (x : Packet) → Is s m (without w x ∷ []) → w ≡ w′
-    → Did p (s .mask) (rows s) n a → Did p (s .mask) (without w′ x ∷ []) n a
+pub on-alone : {p : Part} {n m : ℕ} {v y : List ℕ} {a : Worked} (w w′ : ℕ) (x : Packet) → Held v m (without w x ∷ []) → w ≡ w′
+    → Did p (chunks m v) n y a → Did p (without w′ x ∷ []) n y a
 on-alone w w′ x k e d = rw (k .same, e) at d
-
--- packet i, and those from i on
-rows-end : (s : PacketSet) (i : ℕ) → i ≡ s .count → rowsFrom i s ≡ []
-rows-end s i e = let f : i ≡ length (rows s) = e ∙ sym (length-rows s) in rw f (drop-length (rows s))
-
-rows-next : (s : PacketSet) (i : ℕ) → i < s .count → rowsFrom i s ≡ getD (rows s) i [] ∷ rowsFrom (i + 1) s
-rows-next s i h = let l : i < length (rows s) = omega (arith, length-rows s) in rw add-one (drop-cons (rows s) i [] l)
 
 -- a concurrent part on one packet, and on more
 module _ {wp wq : ℕ} {p q : Part} where
-  module _ {m n k : ℕ} {x : Packet} {a : Worked} where
-    pub over-beside-left : {m′ : ℕ} → Did p m′ (without wq x ∷ []) n a → a .wide ≡ true → Did (Beside wp wq p q) m (x ∷ []) k a
+  module _ {n k : ℕ} {x : Packet} {v w : List ℕ} {a : Worked} where
+    pub over-beside-left : Did p (without wq x ∷ []) n v a → a .wide ≡ true → Did (Beside wp wq p q) (x ∷ []) k w a
     over-beside-left d e = did-over e (omega (arith, d .over e, width-one wp wq p q x))
 
-    pub over-beside-right : {m′ : ℕ} → Did q m′ (without wp x ∷ []) n a → a .wide ≡ true → Did (Beside wp wq p q) m (x ∷ []) k a
+    pub over-beside-right : Did q (without wp x ∷ []) n v a → a .wide ≡ true → Did (Beside wp wq p q) (x ∷ []) k w a
     over-beside-right d e = did-over e (omega (arith, d .over e, width-one wp wq p q x))
 
-  pub did-pair : {m m′ m″ n k : ℕ} {x : Packet} {a b r : Worked} {g : Made}
-      → Did p m′ (without wq x ∷ []) n a → a .wide ≡ false → Did q m″ (without wp x ∷ []) k b → b .wide ≡ false
-      → ((m : ℕ) (s : Packets) → Gives g m s → Joins m s a b r)
-      → Gives g m (pairs wq (rows (a .set)) (rows (b .set))) → Did (Beside wp wq p q) m (x ∷ []) k r
+  pub did-pair : {n k c : ℕ} {x : Packet} {v w u : List ℕ} {a b r : Worked}
+      → Did p (without wq x ∷ []) n v a → a .wide ≡ false → Did q (without wp x ∷ []) k w b → b .wide ≡ false → Joint c a b r
+      → Fits u c (pairs wq (chunks (a .count) v) (chunks (b .count) w)) → Did (Beside wp wq p q) (x ∷ []) k u r
   unfolding out steps room each own
-  did-pair {m} {m′} {m″} {n} {k} {x} {a} {b} {r} {g} d e d′ e′ j u =
-      let f = d .fine e in
-      let f′ = d′ .fine e′ in
-      let u′ : Gives g m (pairs wq (out p (without wq x ∷ [])) (out q (without wp x ∷ []))) = rw (f .set .same, f′ .set .same) at u in
-      let i = j m _ u′ in
+  did-pair {n} {k} {c} {x} {v} {w} {u} {a} {b} {r} d e d′ e′ j f =
+      let g = d .fine e in
+      let g′ = d′ .fine e′ in
+      let i = j (pairs wq (out p (without wq x ∷ [])) (out q (without wp x ∷ []))) u (rw (g .held .same, g′ .held .same) at f) in
       record {
         over = λ w. omega (arith, i .over w, width-one wp wq p q x);
         fine = λ w. record {
-          narrow = omega (arith, is-few (i .set w), f .narrow, f′ .narrow, width-one wp wq p q x);
-          set = i .set w;
-          steps = i .steps w ∙ rw (f .steps, f′ .steps);
-          room = i .room w ∙ rw (f .room, f′ .room);
-          next = i .next w ∙ f′ .next;
+          narrow = omega (arith, held-few (i .held w), g .narrow, g′ .narrow, width-one wp wq p q x);
+          held = i .held w;
+          steps = i .steps w ∙ rw (g .steps, g′ .steps);
+          room = i .room w ∙ rw (g .room, g′ .room);
+          next = i .next w ∙ g′ .next;
         };
       }
 
-  split : {m n k : ℕ} {x : Packet} (s : Packets) {a b r : Worked} {g : Made} → length (x ∷ s) ≤ mostPackets → 0 < length s
-      → Did (Beside wp wq p q) m (x ∷ []) n a → a .wide ≡ false → Did (Beside wp wq p q) m s k b → b .wide ≡ false
-      → ((m : ℕ) (s : Packets) → Gives g m s → Joins m s a b r)
-      → Gives g (a .set .mask) (union (rows (a .set)) (rows (b .set))) → Did (Beside wp wq p q) m (x ∷ s) k r
+  split : {n k c : ℕ} {x : Packet} (s : Packets) {v w u : List ℕ} {a b r : Worked} → length (x ∷ s) ≤ mostPackets → 0 < length s
+      → Did (Beside wp wq p q) (x ∷ []) n v a → a .wide ≡ false → Did (Beside wp wq p q) s k w b → b .wide ≡ false → Joint c a b r
+      → Fits u c (union (chunks (a .count) v) (chunks (b .count) w)) → Did (Beside wp wq p q) (x ∷ s) k u r
   unfolding out steps room each own
-  split [] few some d e d′ e′ j u = absurd (omega arith)
-  split {m} {n} {k} {x} (y ∷ s) {a} {b} {r} {g} few some d e d′ e′ j u =
-      let f = d .fine e in
-      let f′ = d′ .fine e′ in
-      let u′ : Gives g m (union (out (Beside wp wq p q) (x ∷ [])) (out (Beside wp wq p q) (y ∷ s))) =
-      rw (f .set .same, f′ .set .same, f .set .fields) at u in
-      let i = j m _ u′ in
+  split [] few some d e d′ e′ j f = absurd (omega arith)
+  split {n} {k} {c} {x} (y ∷ s) {v} {w} {u} {a} {b} {r} few some d e d′ e′ j f =
+      let g = d .fine e in
+      let g′ = d′ .fine e′ in
+      let i = j (union (out (Beside wp wq p q) (x ∷ [])) (out (Beside wp wq p q) (y ∷ s))) u (rw (g .held .same, g′ .held .same) at f) in
       record {
         over = λ w. omega (arith, i .over w, width-more wp wq p q x (y ∷ s));
         fine = λ w. record {
-          narrow = omega (arith, is-few (i .set w), few, f .narrow, f′ .narrow, width-more wp wq p q x (y ∷ s));
-          set = i .set w;
-          steps = i .steps w ∙ rw (f .steps, f′ .steps);
-          room = i .room w ∙ rw (f .room, f′ .room);
-          next = i .next w ∙ f′ .next;
+          narrow = omega (arith, held-few (i .held w), few, g .narrow, g′ .narrow, width-more wp wq p q x (y ∷ s));
+          held = i .held w;
+          steps = i .steps w ∙ rw (g .steps, g′ .steps);
+          room = i .room w ∙ rw (g .room, g′ .room);
+          next = i .next w ∙ g′ .next;
         };
       }
 
-  -- packet i and those after it
-  module _ {m n : ℕ} (s : PacketSet) (i : ℕ) where
-    pub walk-none : {r : Worked} → i ≡ s .count → Did (Beside wp wq p q) m [] n r → Did (Beside wp wq p q) m (rowsFrom i s) n r
-    walk-none e d = rw (rows-end s i e) d
+  -- packet i of the n of v and those after it
+  module _ {m : ℕ} (v : List ℕ) (n i : ℕ) where
+    pub walk-none : {x : List ℕ} {r : Worked} → i ≡ n → Did (Beside wp wq p q) [] m x r → Did (Beside wp wq p q) (drop i (chunks n v)) m x r
+    walk-none e d = rw (rows-done n v i (omega arith)) d
 
-    module _ {a : Worked} (h : i < s .count) (d : Did (Beside wp wq p q) m (getD (rows s) i [] ∷ []) n a) where
-      pub walk-over : {k : ℕ} → a .wide ≡ true → Did (Beside wp wq p q) m (rowsFrom i s) k a
+    module _ {x : List ℕ} {a : Worked} (h : i < n) (d : Did (Beside wp wq p q) (rowAt v i ∷ []) m x a) where
+      pub walk-over : {k : ℕ} → a .wide ≡ true → Did (Beside wp wq p q) (drop i (chunks n v)) k x a
       walk-over e =
-          rw (rows-next s i h) (did-over e (omega (arith, d .over e, width-more wp wq p q (getD (rows s) i []) (rowsFrom (i + 1) s))))
+          rw (rows-at n v i h) (did-over e (omega (arith, d .over e, width-more wp wq p q (rowAt v i) (drop (i + 1) (chunks n v)))))
 
-      pub walk-last : i + 1 ≡ s .count → Did (Beside wp wq p q) m (rowsFrom i s) n a
-      walk-last e = rw (rows-next s i h, rows-end s (i + 1) e) d
+      pub walk-last : i + 1 ≡ n → Did (Beside wp wq p q) (drop i (chunks n v)) m x a
+      walk-last e = rw (rows-at n v i h, rows-done n v (i + 1) (omega arith)) d
 
-      pub walk-split : {k : ℕ} {b r : Worked} {g : Made} → Whole s → a .wide ≡ false → i + 1 < s .count
-          → Did (Beside wp wq p q) m (rowsFrom (i + 1) s) k b → b .wide ≡ false
-          → ((m : ℕ) (s : Packets) → Gives g m s → Joins m s a b r)
-          → Gives g (a .set .mask) (union (rows (a .set)) (rows (b .set))) → Did (Beside wp wq p q) m (rowsFrom i s) k r
-      walk-split w e l d′ e′ j u =
-          let few : length (getD (rows s) i [] ∷ rowsFrom (i + 1) s) ≤ mostPackets =
-          rw (length-drop, length-rows) (omega (arith, w .room)) in
-          let some : 0 < length (rowsFrom (i + 1) s) = rw (length-drop, length-rows) (omega arith) in
-          rw (rows-next s i h) (split (rowsFrom (i + 1) s) few some d e d′ e′ j u)
+      pub walk-split : {k c : ℕ} {w u : List ℕ} {b r : Worked} → Packed v n → a .wide ≡ false → i + 1 < n
+          → Did (Beside wp wq p q) (drop (i + 1) (chunks n v)) k w b → b .wide ≡ false → Joint c a b r
+          → Fits u c (union (chunks (a .count) x) (chunks (b .count) w)) → Did (Beside wp wq p q) (drop i (chunks n v)) k u r
+      walk-split k e l d′ e′ j f =
+          let few : length (rowAt v i ∷ drop (i + 1) (chunks n v)) ≤ mostPackets =
+          rw (length-drop, length-chunks) (omega (arith, k .room)) in
+          let some : 0 < length (drop (i + 1) (chunks n v)) = rw (length-drop, length-chunks) (omega arith) in
+          rw (rows-at n v i h) (split (drop (i + 1) (chunks n v)) few some d e d′ e′ j f)
 
-    pub walk-rest : {k : ℕ} {b : Worked} → i < s .count → Did (Beside wp wq p q) m (rowsFrom (i + 1) s) n b → b .wide ≡ true
-        → Did (Beside wp wq p q) m (rowsFrom i s) k b
+    pub walk-rest : {k : ℕ} {x w : List ℕ} {b : Worked} → i < n → Did (Beside wp wq p q) (drop (i + 1) (chunks n v)) m x b → b .wide ≡ true
+        → Did (Beside wp wq p q) (drop i (chunks n v)) k w b
     walk-rest h d e =
-        rw (rows-next s i h) (did-over e (omega (arith, d .over e, width-more wp wq p q (getD (rows s) i []) (rowsFrom (i + 1) s))))
+        rw (rows-at n v i h) (did-over e (omega (arith, d .over e, width-more wp wq p q (rowAt v i) (drop (i + 1) (chunks n v)))))

@@ -1,15 +1,12 @@
--- The set that evaluation starts from: the packet's words with zeros after them, and the mask of the book's fields.
-use Prim.Native.Nat.{ℕ, zero, suc, _+_, _-_, _/_, _^_, _≤_, _<_}
+-- The packet that evaluation starts from: its words with zeros after them.
+use Prim.Native.Nat.{ℕ, suc, _+_, _-_, _≤_, _<_}
 use native.Mathlib.Omega.{arith}
 use native.Mathlib.Numerals.{add-one}
-use mathlib.Core.Path.{_≡_, refl, sym, _∙_}
-use mathlib.Core.List.{List, [], _∷_, _++_}
+use mathlib.Core.Path.{_≡_, sym, _∙_}
+use mathlib.Core.List.{List, _++_}
 use lib.ListN.{length, getD, set, take, replicate}
 use lib.Seq.{take-all, take-suc, set-at, length-take-le, append-snoc}
-use Rattle.rules.specs.Packets.{Packet, padded}
-use Rattle.rules.specs.Answers.{startSet}
-use Rattle.packets.specs.declared.PacketSet.{PacketSet}
-use Rattle.packets.specs.Rows.{Is}
+use Rattle.rules.specs.Packets.{padded}
 
 -- word by word
 pub padded-next : (l p : List ℕ) (i : ℕ) → length l ≤ 8 → i < length l → p ≡ take i l ++ replicate (8 - i) 0
@@ -23,19 +20,3 @@ padded-next l p i few h e =
 pub padded-end : (l p : List ℕ) (i : ℕ) → length l ≤ i → i ≤ length l → p ≡ take i l ++ replicate (8 - i) 0 → p ≡ padded l
 unfolding padded
 padded-end l p i h h′ e = let q : i ≡ length l = omega arith in e ∙ rw (q, take-all (length l) l (omega arith))
-
--- the mask of the fields 0 to k - 1, from eight bits
-pub fields-mask : (k : ℕ) → 1 ≤ k → k ≤ 8 → 255 / 2 ^ (8 - k) ≡ 2 ^ k - 1
-fields-mask zero h l = absurd (omega arith)
-fields-mask (suc zero) h l = refl
-fields-mask (suc (suc zero)) h l = refl
-fields-mask (suc (suc (suc zero))) h l = refl
-fields-mask (suc (suc (suc (suc zero)))) h l = refl
-fields-mask (suc (suc (suc (suc (suc zero))))) h l = refl
-fields-mask (suc (suc (suc (suc (suc (suc zero)))))) h l = refl
-fields-mask (suc (suc (suc (suc (suc (suc (suc zero))))))) h l = refl
-fields-mask (suc (suc (suc (suc (suc (suc (suc (suc zero)))))))) h l = refl
-fields-mask (suc (suc (suc (suc (suc (suc (suc (suc (suc k))))))))) h l = absurd (omega arith)
-
-pub start-is : (r : PacketSet) (m m′ : ℕ) (x : Packet) (p : List ℕ) → Is r m (x ∷ []) → m ≡ m′ → x ≡ padded p → Is r m′ (startSet p)
-start-is r m m′ x p k e f = record { whole = k .whole; same = k .same ∙ rw f; fields = k .fields ∙ e }

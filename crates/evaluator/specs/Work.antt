@@ -1,18 +1,18 @@
--- What the evaluator's functions require and give: a part at a place on a set, or the news that it is too wide; the whole answer.
+-- What the evaluator's functions require and give: a part at a place on an array of packets, or the news that it is too wide; the whole
+-- answer. The field mask is not needed: a field that a position lacks holds 0.
 use Prim.Native.Nat.{ℕ, _+_, _≤_, _<_}
 use mathlib.Core.Path.{_≡_}
 use mathlib.Core.Bool.{Bool, true, false}
 use mathlib.Core.List.{List}
-use lib.ListN.{length, getD, drop}
+use lib.ListN.{length, getD}
 use Rattle.rules.specs.Packets.{Packets, mostPackets}
-use Rattle.rules.specs.Parts.{Part, Not, Sum, Seq, Beside, parts, deep, namesOpen}
+use Rattle.rules.specs.Parts.{Part, Test, Set, Not, Sum, Seq, Beside, parts, deep, namesOpen}
 use Rattle.rules.specs.Books.{mostParts, mostBeside, noUse}
-use Rattle.rules.specs.Reading.{partAt, useAt, after}
+use Rattle.rules.specs.Reading.{partAt, useAt, after, numberAt}
 use Rattle.rules.specs.Working.{out, steps, room, width}
 use Rattle.rules.specs.declared.Evaluated.{Evaluated}
 use Rattle.rules.specs.Answers.{evaluated, evaluatedResult}
-use Rattle.packets.specs.declared.PacketSet.{PacketSet}
-use Rattle.packets.specs.Rows.{Whole, Is, rows}
+use Rattle.rows.specs.Chunks.{Held}
 use Rattle.evaluator.specs.declared.Worked.{Worked}
 use Rattle.evaluator.specs.declared.Looked.{Looked}
 
@@ -24,6 +24,13 @@ namedIn s false = noUse
 -- the part at a place of the main body or of a table's
 abbrev pub partIn : List ℕ → Bool → ℕ → ℕ → Part
 partIn s main d at = partAt s (namedIn s main) d at
+
+-- a test and a set whose code stands at a place
+abbrev pub testAt : List ℕ → ℕ → Part
+testAt s at = Test (getD s (at + 1) 0) (numberAt s (at + 2))
+
+abbrev pub setAt : List ℕ → ℕ → Part
+setAt s at = Set (getD s (at + 1) 0) (numberAt s (at + 2))
 
 -- the parts over the parts from a place on, and the concurrent part whose code stands at a place
 abbrev pub notFrom : List ℕ → Bool → ℕ → ℕ → Part
@@ -43,47 +50,41 @@ besideAt s main d at =
 abbrev pub afterTwo : List ℕ → ℕ → ℕ → ℕ
 afterTwo s d from = after s d (after s d from)
 
--- the limits of an accepted book, no table that is not populated, and a whole set: what passes down
-pub record Fair (p : Part) (s : PacketSet) : Type 0 where
+-- the limits of an accepted book, and no table that is not populated: what passes down
+pub record Fair (p : Part) : Type 0 where
   pub few : parts p ≤ mostParts
   pub shallow : deep p ≤ mostBeside
   pub closed : namesOpen p ≡ false
-  pub whole : Whole s
 
 -- an answer that is not too wide
-abbrev pub worked : PacketSet → ℕ → ℕ → ℕ → Worked
-worked t n k a = record { wide = false; set = t; steps = n; room = k; next = a }
+abbrev pub worked : ℕ → ℕ → ℕ → ℕ → Worked
+worked c n k a = record { wide = false; count = c; steps = n; room = k; next = a }
 
--- what a part p gives on the packets s with the fields m, where it is not too wide; n is the place after it
-pub record Fine (p : Part) (m : ℕ) (s : Packets) (n : ℕ) (r : Worked) : Type 0 where
+-- what a part p gives on the packets s, where it is not too wide: the array v; n is the place after it
+pub record Fine (p : Part) (s : Packets) (n : ℕ) (v : List ℕ) (r : Worked) : Type 0 where
   pub narrow : width p s ≤ mostPackets
-  pub set : Is (r .set) m (out p s)
+  pub held : Held v (r .count) (out p s)
   pub steps : r .steps ≡ steps p s
   pub room : r .room ≡ room p s
   pub next : r .next ≡ n
 
 -- too wide exactly if it says so, and else fine
-pub record Did (p : Part) (m : ℕ) (s : Packets) (n : ℕ) (r : Worked) : Type 0 where
+pub record Did (p : Part) (s : Packets) (n : ℕ) (v : List ℕ) (r : Worked) : Type 0 where
   pub over : r .wide ≡ true → mostPackets < width p s
-  pub fine : r .wide ≡ false → Fine p m s n r
+  pub fine : r .wide ≡ false → Fine p s n v r
 
 -- small enough that the sums of two do not wrap
 pub record Small (r : Worked) : Type 0 where
-  pub whole : Whole (r .set)
   pub steps : r .steps ≤ 268173312
   pub room : r .room ≤ 268173313
 
--- r is the packets s, the union or the pairing of what a and b gave, and goes on after b
-pub record Joins (m : ℕ) (s : Packets) (a b r : Worked) : Type 0 where
+-- r tells of the array v of the packets s, the union or the pairing of what a and b gave, and goes on after b
+pub record Joins (s : Packets) (v : List ℕ) (a b r : Worked) : Type 0 where
   pub over : r .wide ≡ true → mostPackets < length s
-  pub set : r .wide ≡ false → Is (r .set) m s
+  pub held : r .wide ≡ false → Held v (r .count) s
   pub steps : r .wide ≡ false → r .steps ≡ a .steps + b .steps + 2
   pub room : r .wide ≡ false → r .room ≡ 1 + (a .room + b .room)
   pub next : r .wide ≡ false → r .next ≡ b .next
-
--- the packets of a set from number i on
-abbrev pub rowsFrom : ℕ → PacketSet → Packets
-rowsFrom i s = drop i (rows s)
 
 -- whether p names an unpopulated table, and if not, the place after it
 pub record Sees (p : Part) (n : ℕ) (r : Looked) : Type 0 where

@@ -1,7 +1,5 @@
 // The evaluator: one packet through a book (document 01, "Meaning", "Steps" and the numbers 8, 12, 9, 10).
 // evaluate_part and the functions of the codes call each other; all that they combine is done by functions outside that cycle.
-use packets::Made;
-use packets::PacketSet;
 use rules::Evaluated;
 use rules::Outcome;
 use rules::Refusal;
@@ -9,23 +7,23 @@ use rules::Sizes;
 use rules::Verdict;
 ghost use mathlib.Core.Path.{_≡_};
 ghost use mathlib.Core.Bool.{true, false};
-ghost use mathlib.Core.List.{[], _∷_};
-ghost use Prim.Native.Nat.{ℕ, _+_, _-_, _*_, _^_, _<_, _≤_, max};
-ghost use lib.ListN.{getD, length};
+ghost use mathlib.Core.List.{List, [], _∷_};
+ghost use Prim.Native.Nat.{ℕ, _+_, _-_, _*_, _<_, _≤_, max};
+ghost use lib.ListN.{getD, length, drop};
 ghost use Rattle.rules.specs.declared.Verdict.the-variants.{Accepted};
-ghost use Rattle.rules.specs.Masks.{less, allFields};
 ghost use Rattle.rules.specs.Packets.{Packets, without, padded, keep, lacks};
-ghost use Rattle.rules.specs.Parts.{Part, Id, Drop, Test, Set, Not, Seq, Beside, Table};
+ghost use Rattle.rules.specs.Parts.{Part, Drop, Not, Seq, Beside, Table};
 ghost use Rattle.rules.specs.Reading.{numberAt, after, useAt, partAt, verdict};
 ghost use Rattle.rules.specs.Working.{out};
 ghost use Rattle.rules.specs.Answers.{startSet, evaluated, evaluatedResult};
-ghost use Rattle.packets.specs.Rows.{rows, Whole, Is, Gives};
-ghost use Rattle.evaluator.specs.Work.{namedIn, partIn, notFrom, sumFrom, seqFrom, besideAt, afterTwo, Fair, Fine, Did, Small, Joins, rowsFrom, Sees, Answers, worked};
+ghost use Rattle.rows.specs.Chunks.{chunks, rowAt, Packed, Held, Fits};
+ghost use Rattle.evaluator.specs.Work.{namedIn, partIn, testAt, setAt, notFrom, sumFrom, seqFrom, besideAt};
+ghost use Rattle.evaluator.specs.Work.{afterTwo, Fair, Fine, Did, Small, Joins, Sees, Answers, worked};
 
-// What a part gives on a set: too wide, or the set, its steps and its room, and the place after the part.
+// What a part gives on the packets of a lent array: too wide, or how many they are then, its steps and its room, and the place after it.
 struct Worked {
     wide: bool,
-    set: PacketSet,
+    count: usize,
     steps: u64,
     room: u64,
     next: usize,
@@ -38,46 +36,38 @@ struct Looked {
 }
 
 // Too wide; the other values say nothing.
-fn too_wide(ps: PacketSet) -> Worked
+fn too_wide() -> Worked
     ensures { λ r. ⌜ r .wide ≡ true ⌝ }
 {
     Worked {
         wide: true,
-        set: ps,
+        count: 0,
         steps: 0,
         room: 0,
         next: 0,
     }
 }
 
-// A position with none below it, which gives a set after so many steps.
-fn leaf(set: PacketSet, steps: u64, next: usize) -> Worked
-    ensures { λ r. ⌜ r ≡ worked set steps 1 next ⌝ }
+// A position with none below it, which gives so many packets after so many steps.
+fn leaf(count: usize, steps: u64, next: usize) -> Worked
+    ensures { λ r. ⌜ r ≡ worked count steps 1 next ⌝ }
 {
     Worked {
         wide: false,
-        set,
+        count,
         steps,
         room: 1,
         next,
     }
 }
 
-// Code 0 and unknown codes.
-fn id_of(ps: PacketSet, next: usize) -> Worked
-    requires { ⌜ Whole ps ⌝ }
-    ensures { λ r. ⌜ Did Id (ps .mask) (rows ps) next r ⌝ }
-{
-    leaf(ps, 0, next)
-}
-
 // Code 1.
-fn drop_of(ps: PacketSet, next: usize) -> Worked
-    requires { ⌜ Whole ps ⌝ }
-    ensures { λ r. ⌜ Did Drop (ps .mask) (rows ps) next r ⌝ }
+fn drop_of(v: &mut [u16; 128], n: usize, next: usize) -> Worked
+    requires { ⌜ Packed (now v) n ⌝ }
+    ensures { λ r. ⌜ Did Drop (chunks n (now (v .entry))) next (now (v .exit)) r ⌝ }
 {
-    let dropped = packets::empty(ps.mask);
-    leaf(dropped, 1, next)
+    rows::clear_rows(v, 0, n);
+    leaf(0, 1, next)
 }
 
 // The two-byte number at a place, high byte first.
@@ -89,66 +79,65 @@ fn number_at(book: &[u8], at: usize) -> u16
 }
 
 // Codes 2 and 3, their code at a place.
-fn test_at(book: &[u8], at: usize, ps: PacketSet) -> Worked
-    requires { ⌜ (at < length (now book)) × Whole ps ⌝ }
-    ensures { λ r. ⌜ Did (Test (getD (now (book .entry)) (at + 1) 0) (numberAt (now (book .entry)) (at + 2))) (ps .mask) (rows ps) (at + 4) r ⌝ }
+fn test_at(book: &[u8], at: usize, v: &mut [u16; 128], n: usize) -> Worked
+    requires { ⌜ (at < length (now book)) × Packed (now v) n ⌝ }
+    ensures { λ r. ⌜ Did (testAt (now (book .entry)) at) (chunks n (now (v .entry))) (at + 4) (now (v .exit)) r ⌝ }
 {
     let f = book::byte_at(book, at + 1) as usize;
-    let v = number_at(book, at + 2);
-    let some = packets::test(ps, f, v);
+    let x = number_at(book, at + 2);
+    let some = rows::keep_in(v, n, f, x);
     leaf(some, 1, at + 4)
 }
 
-fn set_at(book: &[u8], at: usize, ps: PacketSet) -> Worked
-    requires { ⌜ (at < length (now book)) × Whole ps ⌝ }
-    ensures { λ r. ⌜ Did (Set (getD (now (book .entry)) (at + 1) 0) (numberAt (now (book .entry)) (at + 2))) (ps .mask) (rows ps) (at + 4) r ⌝ }
+fn set_at(book: &[u8], at: usize, v: &mut [u16; 128], n: usize) -> Worked
+    requires { ⌜ (at < length (now book)) × Packed (now v) n ⌝ }
+    ensures { λ r. ⌜ Did (setAt (now (book .entry)) at) (chunks n (now (v .entry))) (at + 4) (now (v .exit)) r ⌝ }
 {
     let f = book::byte_at(book, at + 1) as usize;
-    let v = number_at(book, at + 2);
-    let changed = packets::set_field(ps, f, v);
+    let x = number_at(book, at + 2);
+    let changed = rows::set_in(v, n, f, x);
     leaf(changed, 1, at + 4)
 }
 
-// The packets of ps that are not in x: packet by packet, not by whether x has any.
-fn not_given(ps: PacketSet, x: PacketSet) -> PacketSet
-    requires { ⌜ Whole ps × Whole x ⌝ }
-    ensures { λ r. ⌜ Is r (ps .mask) (keep (lacks (rows x)) (rows ps)) ⌝ }
+// The packets of v that are not among the m of x: packet by packet, not by whether x has any.
+fn not_given(v: &mut [u16; 128], n: usize, x: &[u16; 128], m: usize) -> usize
+    requires { ⌜ Packed (now v) n × Packed (now x) m ⌝ }
+    ensures { λ r. ⌜ Held (now (v .exit)) r (keep (lacks (chunks m (now (x .entry)))) (chunks n (now (v .entry)))) ⌝ }
 {
-    packets::difference(ps, x)
+    rows::difference_in(v, n, x, m)
 }
 
-// The packets of ps that a did not give.
-fn not_of(ps: PacketSet, a: Worked) -> Worked
-    requires { ⌜ Whole ps × Small a ⌝ }
-    ensures { λ r. ⌜ ((p : Part) (n : ℕ) → Fine p (ps .mask) (rows ps) n a → Did (Not p) (ps .mask) (rows ps) n r) ⌝ }
+// The packets of v that a did not give, which are in x.
+fn not_of(v: &mut [u16; 128], n: usize, x: &[u16; 128], a: Worked) -> Worked
+    requires { ⌜ Packed (now v) n × Packed (now x) (a .count) × Small a ⌝ }
+    ensures { λ r. ⌜ ((p : Part) (k : ℕ) → Fine p (chunks n (now (v .entry))) k (now (x .entry)) a
+        → Did (Not p) (chunks n (now (v .entry))) k (now (v .exit)) r) ⌝ }
 {
-    let x = a.set;
-    let kept = not_given(ps, x);
+    let m = a.count;
+    let kept = not_given(v, n, x, m);
     Worked {
         wide: false,
-        set: kept,
+        count: kept,
         steps: a.steps + 2,
         room: 1 + a.room,
         next: a.next,
     }
 }
 
-// The union or pairing of what a and b gave, with the steps of both and 2, and the room of both and 1.
-fn joined(made: Made, a: Worked, b: Worked) -> Worked
+// The union or pairing of what a and b gave, so many packets, with the steps of both and 2, and the room of both and 1.
+fn joined(count: usize, a: Worked, b: Worked) -> Worked
     requires { ⌜ Small a × Small b ⌝ }
-    ensures { λ r. ⌜ ((m : ℕ) (s : Packets) → Gives made m s → Joins m s a b r) ⌝ }
+    ensures { λ r. ⌜ ((s : Packets) (v : List ℕ) → Fits v count s → Joins s v a b r) ⌝ }
 {
-    let x = made.set;
-    if made.fits {
-        Worked {
-            wide: false,
-            set: x,
-            steps: a.steps + b.steps + 2,
-            room: 1 + (a.room + b.room),
-            next: b.next,
-        }
-    } else {
-        too_wide(x)
+    if 16 < count {
+        return too_wide();
+    }
+    Worked {
+        wide: false,
+        count,
+        steps: a.steps + b.steps + 2,
+        room: 1 + (a.room + b.room),
+        next: b.next,
     }
 }
 
@@ -161,12 +150,12 @@ fn larger(x: u64, y: u64) -> u64
 // What b gave, after a.
 fn seq_of(a: Worked, b: Worked) -> Worked
     requires { ⌜ Small a × Small b ⌝ }
-    ensures { λ r. ⌜ ((p q : Part) (m : ℕ) (s : Packets) (n k : ℕ) → Fine p m s n a → Fine q m (out p s) k b → Did (Seq p q) m s k r) ⌝ }
+    ensures { λ r. ⌜ ((p q : Part) (s : Packets) (n k : ℕ) (x v : List ℕ) → Fine p s n x a → Fine q (out p s) k v b
+        → Did (Seq p q) s k v r) ⌝ }
 {
-    let y = b.set;
     Worked {
         wide: false,
-        set: y,
+        count: b.count,
         steps: a.steps + b.steps + 1,
         room: larger(1 + a.room, b.room),
         next: b.next,
@@ -176,12 +165,12 @@ fn seq_of(a: Worked, b: Worked) -> Worked
 // What a table's body gave; the use of the table ends before next.
 fn table_of(a: Worked, next: usize) -> Worked
     requires { ⌜ Small a ⌝ }
-    ensures { λ r. ⌜ ((x rd w start : ℕ) (p : Part) (m : ℕ) (s : Packets) (n : ℕ) → Fine p m s n a → Did (Table x rd w start p) m s next r) ⌝ }
+    ensures { λ r. ⌜ ((x rd w start : ℕ) (p : Part) (s : Packets) (n : ℕ) (v : List ℕ) → Fine p s n v a
+        → Did (Table x rd w start p) s next v r) ⌝ }
 {
-    let x = a.set;
     Worked {
         wide: false,
-        set: x,
+        count: a.count,
         steps: 1 + a.steps,
         room: a.room,
         next,
@@ -189,160 +178,240 @@ fn table_of(a: Worked, next: usize) -> Worked
 }
 
 // A concurrent part on no packet, its code at a place.
-fn none_at(book: &[u8], at: usize, depth: usize, mask: u8) -> Worked
+fn none_at(book: &[u8], at: usize, depth: usize) -> Worked
     requires { ⌜ at < length (now book) ⌝ }
-    ensures { λ r. ⌜ ((wp wq : ℕ) (p q : Part) → Did (Beside wp wq p q) mask [] (afterTwo (now (book .entry)) depth (at + 3)) r) ⌝ }
+    ensures { λ r. ⌜ ((wp wq : ℕ) (p q : Part) (v : List ℕ) → Held v 0 []
+        → Did (Beside wp wq p q) [] (afterTwo (now (book .entry)) depth (at + 3)) v r) ⌝ }
 {
-    let none = packets::empty(mask);
     let middle = book::place_after(book, at + 3, depth);
-    let next = book::place_after(book, middle, depth);
-    leaf(none, 1, next)
+    let end = book::place_after(book, middle, depth);
+    leaf(0, 1, end)
 }
 
-// Packet i alone, without the fields of w.
-fn alone(ps: PacketSet, i: usize, w: u8) -> PacketSet
-    requires { ⌜ (i < ps .count) × Whole ps ⌝ }
-    ensures { λ r. ⌜ Is r (less (ps .mask) w) (without w (getD (rows ps) i []) ∷ []) ⌝ }
+// Packet i of v alone, without the fields of w, put into an array of zeros.
+fn alone(v: &[u16; 128], i: usize, w: u8, x: &mut [u16; 128])
+    requires { ⌜ (i < 16) × (length (now v) ≡ 128) × Held (now x) 0 [] ⌝ }
+    ensures { λ _. ⌜ Held (now (x .exit)) 1 (without w (rowAt (now (v .entry)) i) ∷ []) ⌝ }
 {
-    let p = rows::bare(w, packets::packet(ps, i));
-    packets::one(p, (ps.mask | w) ^ w)
+    let p = rows::bare(w, rows::row(v, i));
+    rows::put_row(x, 0, p);
 }
 
 // Code 4, the part below it at a place.
-fn not_at(book: &[u8], main: bool, from: usize, depth: usize, ps: PacketSet) -> Worked
-    requires { ⌜ Fair (notFrom (now book) main depth from) ps ⌝ }
-    ensures { λ r. ⌜ Did (notFrom (now (book .entry)) main depth from) (ps .mask) (rows ps) (after (now (book .entry)) depth from) r ⌝ }
+fn not_at(
+    book: &[u8],
+    main: bool,
+    from: usize,
+    depth: usize,
+    v: &mut [u16; 128],
+    n: usize,
+) -> Worked
+    requires { ⌜ Fair (notFrom (now book) main depth from) × Packed (now v) n ⌝ }
+    ensures { λ r. ⌜ Did (notFrom (now (book .entry)) main depth from)
+        (chunks n (now (v .entry))) (after (now (book .entry)) depth from) (now (v .exit)) r ⌝ }
 {
-    let a = evaluate_part(book, main, from, depth, ps);
+    let mut x = *v;
+    let a = evaluate_part(book, main, from, depth, &mut x, n);
     if a.wide {
         return a;
     }
-    not_of(ps, a)
+    not_of(v, n, &x, a)
 }
 
 // Code 5, the parts below it from a place on.
-fn sum_at(book: &[u8], main: bool, from: usize, depth: usize, ps: PacketSet) -> Worked
-    requires { ⌜ Fair (sumFrom (now book) main depth from) ps ⌝ }
-    ensures { λ r. ⌜ Did (sumFrom (now (book .entry)) main depth from) (ps .mask) (rows ps) (afterTwo (now (book .entry)) depth from) r ⌝ }
+fn sum_at(
+    book: &[u8],
+    main: bool,
+    from: usize,
+    depth: usize,
+    v: &mut [u16; 128],
+    n: usize,
+) -> Worked
+    requires { ⌜ Fair (sumFrom (now book) main depth from) × Packed (now v) n ⌝ }
+    ensures { λ r. ⌜ Did (sumFrom (now (book .entry)) main depth from)
+        (chunks n (now (v .entry))) (afterTwo (now (book .entry)) depth from) (now (v .exit)) r ⌝ }
 {
-    let a = evaluate_part(book, main, from, depth, ps);
+    let mut x = *v;
+    let a = evaluate_part(book, main, from, depth, v, n);
     if a.wide {
         return a;
     }
     let middle = a.next;
-    let b = evaluate_part(book, main, middle, depth, ps);
+    let b = evaluate_part(book, main, middle, depth, &mut x, n);
     if b.wide {
         return b;
     }
-    let x = a.set;
-    let y = b.set;
-    joined(packets::union(x, y), a, b)
+    let left = a.count;
+    let right = b.count;
+    let count = rows::union_in(v, left, &x, right);
+    joined(count, a, b)
 }
 
 // Code 6, the parts below it from a place on.
-fn seq_at(book: &[u8], main: bool, from: usize, depth: usize, ps: PacketSet) -> Worked
-    requires { ⌜ Fair (seqFrom (now book) main depth from) ps ⌝ }
-    ensures { λ r. ⌜ Did (seqFrom (now (book .entry)) main depth from) (ps .mask) (rows ps) (afterTwo (now (book .entry)) depth from) r ⌝ }
+fn seq_at(
+    book: &[u8],
+    main: bool,
+    from: usize,
+    depth: usize,
+    v: &mut [u16; 128],
+    n: usize,
+) -> Worked
+    requires { ⌜ Fair (seqFrom (now book) main depth from) × Packed (now v) n ⌝ }
+    ensures { λ r. ⌜ Did (seqFrom (now (book .entry)) main depth from)
+        (chunks n (now (v .entry))) (afterTwo (now (book .entry)) depth from) (now (v .exit)) r ⌝ }
 {
-    let a = evaluate_part(book, main, from, depth, ps);
+    let a = evaluate_part(book, main, from, depth, v, n);
     if a.wide {
         return a;
     }
     let middle = a.next;
-    let x = a.set;
-    let b = evaluate_part(book, main, middle, depth, x);
+    let given = a.count;
+    let b = evaluate_part(book, main, middle, depth, v, given);
     if b.wide {
         return b;
     }
     seq_of(a, b)
 }
 
-// Code 7, its code at a place, on packet i alone: each side without the fields that the other writes.
-fn one_packet(book: &[u8], main: bool, at: usize, depth: usize, ps: PacketSet, i: usize) -> Worked
-    requires { ⌜ (at < length (now book)) × (i < ps .count) × Fair (besideAt (now book) main depth at) ps ⌝ }
-    ensures { λ r. ⌜ Did (besideAt (now (book .entry)) main depth at) (ps .mask) (getD (rows ps) i [] ∷ []) (afterTwo (now (book .entry)) depth (at + 3)) r ⌝ }
+// Code 7, its code at a place, on packet i of v alone: each side without the fields that the other writes. Put into an array of zeros.
+fn one_packet(
+    book: &[u8],
+    main: bool,
+    at: usize,
+    depth: usize,
+    v: &[u16; 128],
+    i: usize,
+    out: &mut [u16; 128],
+) -> Worked
+    requires { ⌜ (at < length (now book)) × (i < 16) × (length (now v) ≡ 128)
+        × Held (now out) 0 [] × Fair (besideAt (now book) main depth at) ⌝ }
+    ensures { λ r. ⌜ Did (besideAt (now (book .entry)) main depth at)
+        (rowAt (now (v .entry)) i ∷ []) (afterTwo (now (book .entry)) depth (at + 3)) (now (out .exit)) r ⌝ }
 {
     let wp = book::byte_at(book, at + 1);
     let wq = book::byte_at(book, at + 2);
-    let a = evaluate_part(book, main, at + 3, depth, alone(ps, i, wq));
+    let mut x = [0u16; 128];
+    alone(v, i, wq, &mut x);
+    let a = evaluate_part(book, main, at + 3, depth, &mut x, 1);
     if a.wide {
         return a;
     }
     let middle = a.next;
-    let b = evaluate_part(book, main, middle, depth, alone(ps, i, wp));
+    let mut y = [0u16; 128];
+    alone(v, i, wp, &mut y);
+    let b = evaluate_part(book, main, middle, depth, &mut y, 1);
     if b.wide {
         return b;
     }
-    let x = a.set;
-    let y = b.set;
-    joined(packets::pairs(x, y, wq, ps.mask), a, b)
+    let left = a.count;
+    let right = b.count;
+    let count = rows::pairs_into(out, &x, left, &y, right, wq);
+    joined(count, a, b)
 }
 
-// Code 7, its code at a place, on the packets from number i on: one alone, or the lowest and the rest joined.
-fn walk_packets(book: &[u8], main: bool, at: usize, depth: usize, ps: PacketSet, i: usize) -> Worked
-    requires { ⌜ (at < length (now book)) × (i ≤ ps .count) × Fair (besideAt (now book) main depth at) ps ⌝ }
-    ensures { λ r. ⌜ Did (besideAt (now (book .entry)) main depth at) (ps .mask) (rowsFrom i ps) (afterTwo (now (book .entry)) depth (at + 3)) r ⌝ }
+// Code 7, its code at a place, on the n packets of v from number i on: one alone, or the lowest and the rest joined. Put into zeros.
+fn walk_packets(
+    book: &[u8],
+    main: bool,
+    at: usize,
+    depth: usize,
+    v: &[u16; 128],
+    n: usize,
+    i: usize,
+    out: &mut [u16; 128],
+) -> Worked
+    requires { ⌜ (at < length (now book)) × (i ≤ n) × Packed (now v) n × Held (now out) 0 [] × Fair (besideAt (now book) main depth at) ⌝ }
+    ensures { λ r. ⌜ Did (besideAt (now (book .entry)) main depth at) (drop i
+        (chunks n (now (v .entry)))) (afterTwo (now (book .entry)) depth (at + 3)) (now (out .exit)) r ⌝ }
 {
-    let n = ps.count;
     if i == n {
-        return none_at(book, at, depth, ps.mask);
+        return none_at(book, at, depth);
     }
-    let a = one_packet(book, main, at, depth, ps, i);
+    let a = one_packet(book, main, at, depth, v, i, out);
     if a.wide {
         return a;
     }
     if i + 1 == n {
         return a;
     }
-    let b = walk_packets(book, main, at, depth, ps, i + 1);
+    let mut rest = [0u16; 128];
+    let b = walk_packets(book, main, at, depth, v, n, i + 1, &mut rest);
     if b.wide {
         return b;
     }
-    let x = a.set;
-    let y = b.set;
-    joined(packets::union(x, y), a, b)
+    let left = a.count;
+    let right = b.count;
+    let count = rows::union_in(out, left, &rest, right);
+    joined(count, a, b)
+}
+
+// Code 7, its code at a place: packet by packet from a copy, into the array.
+fn beside_at(
+    book: &[u8],
+    main: bool,
+    at: usize,
+    depth: usize,
+    v: &mut [u16; 128],
+    n: usize,
+) -> Worked
+    requires { ⌜ (at < length (now book)) × Fair (besideAt (now book) main depth at) × Packed (now v) n ⌝ }
+    ensures { λ r. ⌜ Did (besideAt (now (book .entry)) main depth at)
+        (chunks n (now (v .entry))) (afterTwo (now (book .entry)) depth (at + 3)) (now (v .exit)) r ⌝ }
+{
+    let x = *v;
+    rows::clear_rows(v, 0, n);
+    walk_packets(book, main, at, depth, &x, n, 0, v)
 }
 
 // Code 8, its code at a place: the table's body in the main body, nothing in a table's.
-fn table_at(book: &[u8], main: bool, at: usize, ps: PacketSet) -> Worked
-    requires { ⌜ (at < length (now book)) × Fair (namedIn (now book) main (getD (now book) (at + 1) 0)) ps ⌝ }
-    ensures { λ r. ⌜ Did (namedIn (now (book .entry)) main (getD (now (book .entry)) (at + 1) 0)) (ps .mask) (rows ps) (at + 2) r ⌝ }
+fn table_at(book: &[u8], main: bool, at: usize, v: &mut [u16; 128], n: usize) -> Worked
+    requires { ⌜ (at < length (now book)) × Fair (namedIn (now book) main (getD (now book) (at + 1) 0)) × Packed (now v) n ⌝ }
+    ensures { λ r. ⌜ Did (namedIn (now (book .entry)) main (getD (now (book .entry)) (at + 1) 0))
+        (chunks n (now (v .entry))) (at + 2) (now (v .exit)) r ⌝ }
 {
     if main {
         let start = book::body_start(book, book::byte_at(book, at + 1));
-        let a = evaluate_part(book, false, start, 32, ps);
+        let a = evaluate_part(book, false, start, 32, v, n);
         if a.wide {
             return a;
         }
         table_of(a, at + 2)
     } else {
-        id_of(ps, at + 2)
+        leaf(n, 0, at + 2)
     }
 }
 
-// The part at a place, in the main body or in a table's, on a set. Past the end, and below the depth, stands id.
-fn evaluate_part(book: &[u8], main: bool, at: usize, depth: usize, ps: PacketSet) -> Worked
-    requires { ⌜ Fair (partIn (now book) main depth at) ps ⌝ }
-    ensures { λ r. ⌜ Did (partIn (now (book .entry)) main depth at) (ps .mask) (rows ps) (after (now (book .entry)) depth at) r ⌝ }
+// The part at a place, in the main body or in a table's, on the n packets of v. Past the end, and below the depth, stands id.
+fn evaluate_part(
+    book: &[u8],
+    main: bool,
+    at: usize,
+    depth: usize,
+    v: &mut [u16; 128],
+    n: usize,
+) -> Worked
+    requires { ⌜ Fair (partIn (now book) main depth at) × Packed (now v) n ⌝ }
+    ensures { λ r. ⌜ Did (partIn (now (book .entry)) main depth at)
+        (chunks n (now (v .entry))) (after (now (book .entry)) depth at) (now (v .exit)) r ⌝ }
 {
     if depth == 0 {
-        return id_of(ps, at);
+        return leaf(n, 0, at);
     }
     if book.len() <= at {
-        return id_of(ps, at);
+        return leaf(n, 0, at);
     }
     let code = book[at];
     let below = depth - 1;
     match code {
-        1 => drop_of(ps, at + 1),
-        2 => test_at(book, at, ps),
-        3 => set_at(book, at, ps),
-        4 => not_at(book, main, at + 1, below, ps),
-        5 => sum_at(book, main, at + 1, below, ps),
-        6 => seq_at(book, main, at + 1, below, ps),
-        7 => walk_packets(book, main, at, below, ps, 0),
-        8 => table_at(book, main, at, ps),
-        _ => id_of(ps, at + 1),
+        1 => drop_of(v, n, at + 1),
+        2 => test_at(book, at, v, n),
+        3 => set_at(book, at, v, n),
+        4 => not_at(book, main, at + 1, below, v, n),
+        5 => sum_at(book, main, at + 1, below, v, n),
+        6 => seq_at(book, main, at + 1, below, v, n),
+        7 => beside_at(book, main, at, below, v, n),
+        8 => table_at(book, main, at, v, n),
+        _ => leaf(n, 0, at + 1),
     }
 }
 
@@ -412,20 +481,12 @@ fn padded(packet: &[u16]) -> [u16; 8]
     p
 }
 
-// The mask of the fields 0 to k - 1.
-fn all_fields(k: usize) -> u8
-    requires { ⌜ (1 ≤ k) × (k ≤ 8) ⌝ }
-    ensures { λ r. ⌜ r ≡ allFields k ⌝ }
+// The packet that comes in, put into an array of zeros.
+fn start_in(packet: &[u16], v: &mut [u16; 128])
+    requires { ⌜ (length (now packet) ≤ 8) × Held (now v) 0 [] ⌝ }
+    ensures { λ _. ⌜ Held (now (v .exit)) 1 (startSet (now (packet .entry))) ⌝ }
 {
-    255u8 >> (8 - k)
-}
-
-// The set of the packet that comes in.
-fn start_set(packet: &[u16], k: usize) -> PacketSet
-    requires { ⌜ (length (now packet) ≡ k) × (1 ≤ k) × (k ≤ 8) ⌝ }
-    ensures { λ r. ⌜ Is r (allFields k) (startSet (now (packet .entry))) ⌝ }
-{
-    packets::one(padded(packet), all_fields(k))
+    rows::put_row(v, 0, padded(packet));
 }
 
 // One packet through an accepted book: 8, 12, 9, 10 in this order, or the packets in the result.
@@ -445,14 +506,16 @@ fn evaluate_accepted(book: &[u8], packet: &[u16], result: &mut [u16], z: Sizes) 
     if seen.found {
         return Evaluated::NotGiven(Refusal::Unpopulated);
     }
-    let w = evaluate_part(book, true, start, 32, start_set(packet, k));
+    let mut v = [0u16; 128];
+    start_in(packet, &mut v);
+    let w = evaluate_part(book, true, start, 32, &mut v, 1);
     if w.wide {
         return Evaluated::NotGiven(Refusal::TooWide);
     }
-    let s = w.set;
-    let written = packets::emit(s, k, result);
+    let count = w.count;
+    let written = rows::emit_rows(&v, count, k, result);
     Evaluated::Given(Outcome {
-        count: s.count,
+        count,
         steps: w.steps,
         parts: z.parts,
         deep: z.deep,
@@ -462,7 +525,8 @@ fn evaluate_accepted(book: &[u8], packet: &[u16], result: &mut [u16], z: Sizes) 
 
 // One packet through a book: why it is turned away, or the count, N, n, D and the room, and the packets in the result.
 pub fn evaluate(book: &[u8], packet: &[u16], result: &mut [u16]) -> Evaluated
-    ensures { λ r. ⌜ (r ≡ evaluated (now (book .entry)) (now (packet .entry)) (length (now (result .entry)))) × (now (result .exit) ≡ evaluatedResult (now (book .entry)) (now (packet .entry)) (now (result .entry))) ⌝ }
+    ensures { λ r. ⌜ (r ≡ evaluated (now (book .entry)) (now (packet .entry)) (length (now (result .entry))))
+        × (now (result .exit) ≡ evaluatedResult (now (book .entry)) (now (packet .entry)) (now (result .entry))) ⌝ }
 {
     let v = typing::accept(book);
     match v {

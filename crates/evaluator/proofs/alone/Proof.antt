@@ -1,6 +1,6 @@
 -- `alone` meets its contract.
 use borrow.Author.Needs.{needs}
-use Rattle.evaluator.proofs.WorkLaws.{alone-is}
+use Rattle.rows.proofs.Fillings.{held-as, held-one}
 use Rattle.evaluator.proofs.alone.Statement.{statement}
 use Rattle.evaluator.proofs.alone.Tie as tie
 
@@ -12,5 +12,5 @@ alone-spec =
     (λ c κs. search needs)
     (λ c κs. search needs)
     (λ c.
-    let a = c .before .before .before .before .args in
-    alone-is (a .ps) _ (a .i) (a .w) _ _ (c .before .before .before .before .pre .0) (c .before .before .before .packet .ensures) (c .before .before .bare .ensures) (c .one .ensures)))
+    let k = held-one {p = c .before .before .bare .result} (c .before .before .before .before .pre .2) (search needs) in
+    rw (c .put-row .ensures) (held-as k (rw (c .before .before .bare .ensures, c .before .before .before .row .ensures)))))

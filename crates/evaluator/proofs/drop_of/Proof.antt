@@ -1,5 +1,6 @@
 -- `drop_of` meets its contract.
 use borrow.Author.Needs.{needs}
+use Rattle.rows.proofs.Sliding.{cleared-packed}
 use Rattle.evaluator.proofs.WorkLaws.{did-drop}
 use Rattle.evaluator.proofs.drop_of.Statement.{statement}
 use Rattle.evaluator.proofs.drop_of.Tie as tie
@@ -10,4 +11,6 @@ drop-of-spec =
     (tie.spec
     (λ c κs. search needs)
     (λ c κs. search needs)
-    (λ c. rw (c .leaf .ensures) (did-drop (c .before .before .args .ps) (c .before .before .pre) _ _ (c .before .empty .ensures))))
+    (λ c.
+    let s = c .before .before .before in
+    rw (c .leaf .ensures) (did-drop (s .pre) _ (rw (c .before .clear-rows .ensures) (cleared-packed (s .pre))))))

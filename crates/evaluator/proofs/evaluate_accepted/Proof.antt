@@ -1,10 +1,62 @@
 -- `evaluate_accepted` meets its contract.
 use borrow.Author.Needs.{needs}
 use native.Mathlib.Omega.{arith}
-use mathlib.Core.Path.{_∙_}
-use Rattle.evaluator.proofs.Answering.{fields-some, wrong-packet, wrong-buffer, unpopulated, too-wide-is, given-is, open-is, main-fair, main-did}
+use mathlib.Core.Path.{_≡_, _∙_}
+use mathlib.Core.Bool.{false}
+use Rattle.rules.specs.Parts.{namesOpen}
+use Rattle.rules.specs.Reading.{mainOf}
+use Rattle.rows.proofs.Fillings.{zeros-held}
+use Rattle.evaluator.proofs.Answering.{fields-some, wrong-packet, wrong-buffer, unpopulated, too-wide-is, given-is, open-is}
+use Rattle.evaluator.proofs.Answering.{main-fair, main-did}
 use Rattle.evaluator.proofs.evaluate_accepted.Statement.{statement}
 use Rattle.evaluator.proofs.evaluate_accepted.Tie as tie
+
+-- no table that is named is unpopulated
+closed : (c : tie.After-v) → namesOpen (mainOf (c .before .before .before .before .before .before .before .before .before .args .book .now)) ≡ false
+closed c =
+    let l = c .before .before in
+    open-is _ _ (l .before .body-start .ensures .0) (l .look-part .ensures) ∙ c .before .if3 .left
+
+returns-3 : tie.Need-returns-3
+returns-3 c =
+    let l = c .before in
+    let b = l .before in
+    let i = b .before in
+    unpopulated _ _ _ _ (i .before .before .before .before .before .pre) (i .before .if1 .left) (i .if2 .left)
+    (open-is _ _ (b .body-start .ensures .0) (l .look-part .ensures) ∙ c .if3 .taken)
+
+start-in-requires : tie.Need-start-in-requires
+start-in-requires c κs =
+    let i = c .before .before .before .before .before in
+    let k = fields-some _ _ (i .before .before .before .before .pre) in
+    (omega (arith, i .if1 .left, k .1), zeros-held)
+
+evaluate-part-requires : tie.Need-evaluate-part-requires
+evaluate-part-requires c κs =
+    let v = c .before .before in
+    let b = v .before .before .before in
+    (main-fair _ _ (b .body-start .ensures .0) _ (b .before .before .before .before .before .before .pre) (closed v), c .before .start-in .ensures .packed)
+
+returns-4 : tie.Need-returns-4
+returns-4 c =
+    let s = c .before .before .before in
+    let v = s .before in
+    let b = v .before .before .before in
+    let i = b .before in
+    too-wide-is _ _ _ _ (i .before .before .before .before .before .pre) (i .before .if1 .left) (i .if2 .left) (closed v)
+    (main-did _ _ (b .body-start .ensures .0) _ (s .start-in .ensures) (c .before .evaluate-part .ensures)) (c .if4 .taken)
+
+returns-5 : tie.Need-returns-5
+returns-5 c =
+    let o = c .before .before in
+    let f = o .before .before .before in
+    let e = f .before in
+    let s = e .before .before in
+    let v = s .before in
+    let b = v .before .before .before in
+    let i = b .before in
+    given-is _ _ _ _ (i .before .before .before .before .before .pre) (i .before .if1 .left) (i .if2 .left) (closed v)
+    (main-did _ _ (b .body-start .ensures .0) _ (s .start-in .ensures) (e .evaluate-part .ensures)) (f .if4 .left) _ _ (o .emit-rows .ensures)
 
 pub evaluate-accepted-spec : {M : Type 1} → statement M
 evaluate-accepted-spec =
@@ -15,48 +67,10 @@ evaluate-accepted-spec =
     (λ c. wrong-buffer _ _ _ _ (c .before .before .before .before .before .pre) (c .before .if1 .left) (c .if2 .taken))
     (λ c κs. search needs)
     (λ c κs. search needs)
-    (λ c.
-    let start = c .before .before .before .before .before .before .before .before in
-    let if1 = c .before .before .before .before .if1 in
-    let if2 = c .before .before .before .if2 in
-    let body-start = c .before .before .body-start in
-    let look-part = c .before .look-part in
-    unpopulated _ _ _ _ (start .pre) (if1 .left) (if2 .left)
-    (open-is _ _ (body-start .ensures .0) (look-part .ensures) ∙ c .if3 .taken))
-    (λ c κs.
-    let start = c .before .before .before .before .before .before .before .before in
-    let if1 = c .before .before .before .before .if1 in
-    let k = fields-some _ _ (start .pre) in
-    ((if1 .left), k .0, k .1))
-    (λ c κs.
-    let start = c .before .before .before .before .before .before .before .before .before in
-    let body-start = c .before .before .before .body-start in
-    let look-part = c .before .before .look-part in
-    main-fair _ _ (body-start .ensures .0) _ _ (start .pre)
-    (open-is _ _ (body-start .ensures .0) (look-part .ensures) ∙ c .before .if3 .left) (c .start-set .ensures .whole))
-    (λ c.
-    let start = c .before .before .before .before .before .before .before .before .before .before .before in
-    let if1 = c .before .before .before .before .before .before .before .if1 in
-    let if2 = c .before .before .before .before .before .before .if2 in
-    let body-start = c .before .before .before .before .before .body-start in
-    let look-part = c .before .before .before .before .look-part in
-    let if3 = c .before .before .before .if3 in
-    let start-set = c .before .before .start-set in
-    let evaluate-part = c .before .evaluate-part in
-    too-wide-is _ _ _ _ (start .pre) (if1 .left) (if2 .left) (open-is _ _ (body-start .ensures .0) (look-part .ensures) ∙ if3 .left)
-    (main-did _ _ (body-start .ensures .0) _ _ (start-set .ensures) (evaluate-part .ensures)) (c .if4 .taken))
-    (λ c κs. c .before .before .before .evaluate-part .ensures .fine (c .before .before .if4 .left) .set .whole)
+    returns-3
+    start-in-requires
+    evaluate-part-requires
+    returns-4
+    (λ c κs. c .before .before .before .evaluate-part .ensures .fine (c .before .before .if4 .left) .held .packed)
     (λ c. search needs)
-    (λ c.
-    let start = c .before .before .before .before .before .before .before .before .before .before .before .before .before .before .before .before in
-    let if1 = c .before .before .before .before .before .before .before .before .before .before .before .before .if1 in
-    let if2 = c .before .before .before .before .before .before .before .before .before .before .before .if2 in
-    let body-start = c .before .before .before .before .before .before .before .before .before .before .body-start in
-    let look-part = c .before .before .before .before .before .before .before .before .before .look-part in
-    let if3 = c .before .before .before .before .before .before .before .before .if3 in
-    let start-set = c .before .before .before .before .before .before .before .start-set in
-    let evaluate-part = c .before .before .before .before .before .before .evaluate-part in
-    let if4 = c .before .before .before .before .before .if4 in
-    let emit = c .before .before .emit in
-    given-is _ _ _ _ (start .pre) (if1 .left) (if2 .left) (open-is _ _ (body-start .ensures .0) (look-part .ensures) ∙ if3 .left)
-    (main-did _ _ (body-start .ensures .0) _ _ (start-set .ensures) (evaluate-part .ensures)) (if4 .left) _ _ (emit .ensures)))
+    returns-5)

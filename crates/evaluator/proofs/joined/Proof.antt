@@ -8,10 +8,10 @@ pub joined-spec : {M : Type 1} → statement M
 joined-spec =
     tie.close
     (tie.spec
-    (λ c. search needs)
-    (λ c. search needs)
-    (λ c. search needs)
-    (λ c. search needs)
     (λ c κs. search needs)
-    (λ c. joins-fits _ _ _ (search needs))
-    (λ c. joins-not _ _ _ _ (c .before .if1 .left) (c .too-wide .ensures)))
+    (λ c. joins-not _ _ _ _ (c .before .if1 .taken) (c .too-wide .ensures))
+    (λ c. search needs)
+    (λ c. search needs)
+    (λ c. search needs)
+    (λ c. search needs)
+    (λ c. joins-fits _ _ _ (c .before .before .before .before .if1 .left)))

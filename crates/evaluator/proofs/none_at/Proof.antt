@@ -10,11 +10,10 @@ pub none-at-spec : {M : Type 1} → statement M
 none-at-spec =
     tie.close
     (tie.spec
-    (λ c κs. search needs)
     (λ c. search needs)
     (λ c κs. search needs)
     (λ c κs. search needs)
     (λ c κs. search needs)
     (λ c.
-    rw (c .leaf .ensures) (did-none _ _ _ _ (c .before .before .before .empty .ensures)
-    (c .before .place-after2 .ensures ∙ ap (after _ _) (c .before .before .place-after .ensures)))))
+    rw (c .leaf .ensures)
+    (did-none _ _ (c .before .place-after2 .ensures ∙ ap (after _ _) (c .before .before .place-after .ensures)))))

@@ -11,4 +11,4 @@ not-of-spec =
     (λ c κs. search needs)
     (λ c. search needs)
     (λ c. search needs)
-    (λ c. did-not _ _ _ (c .before .before .before .before .pre .0) (c .before .before .not-given .ensures)))
+    (λ c. did-not (c .before .before .before .before .pre .0) _ (c .before .before .not-given .ensures)))
