@@ -4,7 +4,7 @@ use native.Mathlib.Omega.{arith}
 use native.Mathlib.Decide.{decLe}
 use mathlib.Core.Path.{_≡_, refl, sym, ap, subst, _∙_}
 use mathlib.Core.Bool.{Bool, true, false, cond, _||_, false≢true}
-use mathlib.Core.List.{List, [], _∷_, _++_, append-assoc}
+use mathlib.Core.List.{List, [], _∷_, _++_}
 use mathlib.Core.Option.{Option, none, some}
 use lib.Dec.{eqb}
 use mathlib.Core.Logic.{_⊎_, inl, inr}
@@ -16,6 +16,8 @@ use Rattle.rules.specs.Reading.{fieldsOf, tablesOf, lengthAt, readsAt, writesAt
 use Rattle.rules.specs.Packets.{Packets}
 use Rattle.rules.specs.States.{Spot, placed, place}
 use Rattle.rules.proofs.Decoding.{reads, drop-head, size-positive}
+use Rattle.book.proofs.CodeLaws.{part-suc}
+use Rattle.typing.proofs.Inside.{Placed, placed-not, placed-sum, placed-seq, placed-beside}
 use Rattle.machine.specs.Shown.{partOf, Stands, Readable}
 
 -- a fine part may stand one deeper
@@ -34,7 +36,10 @@ fine-deeper c n (suc d) pred (Beside wp wq p q) f =
 fine-deeper c n (suc d) pred (Table x r w start p) f = f
 fine-deeper c n (suc d) pred (Open x r w) f = f
 
--- what a fine part says of its operands and of the parts below it
+abbrev scope : List ℕ → Bool → Scope
+scope s main = scopeOf (fieldsOf s) (tablesOf s) main
+
+-- what a fine part says of its operands
 module _ (c : Scope) (n : ℕ → Part) (d : ℕ) (pred : Bool) where
   fine-test : (f v : ℕ) → Fine c n (suc d) pred (Test f v) → f < c .fields
   unfolding Fine
@@ -44,29 +49,10 @@ module _ (c : Scope) (n : ℕ → Part) (d : ℕ) (pred : Bool) where
   unfolding Fine
   fine-set f v h = h .1
 
-  fine-not : (p : Part) → Fine c n (suc d) pred (Not p) → Fine c n d true p
-  unfolding Fine
-  fine-not p h = h
-
-  fine-sum : (p q : Part) → Fine c n (suc d) pred (Sum p q) → Fine c n d pred p × Fine c n d pred q
-  unfolding Fine
-  fine-sum p q h = h
-
-  fine-seq : (p q : Part) → Fine c n (suc d) pred (Seq p q) → Fine c n d pred p × Fine c n d pred q
-  unfolding Fine
-  fine-seq p q h = h
-
-  fine-beside : (wp wq : ℕ) (p q : Part) → Fine c n (suc d) pred (Beside wp wq p q) → Fine c n d pred p × Fine c n d pred q
-  unfolding Fine
-  fine-beside wp wq p q h = (h .3, h .4)
-
   fine-table : (x r w start : ℕ) (p : Part) → Fine c n (suc d) pred (Table x r w start p)
       → (0 < x) × (x ≤ c .tables) × (n x ≡ Table x r w start p)
   unfolding Fine
   fine-table x r w start p h = (h .2, h .3, h .4)
-
-abbrev scope : List ℕ → Bool → Scope
-scope s main = scopeOf (fieldsOf s) (tablesOf s) main
 
 -- a fine part that is written at a place is the part there, and ends its size after it
 pub record Found (s : List ℕ) (at : ℕ) (p : Part) : Type 0 where
@@ -74,15 +60,14 @@ pub record Found (s : List ℕ) (at : ℕ) (p : Part) : Type 0 where
   pub stands : Stands s at
   pub ends : after s mostDepth at ≡ at + size p
 
-pub found : (s : List ℕ) (at : ℕ) (main pred : Bool) (p : Part) (rest : List ℕ) → Fine (scope s main) (useAt s) 31 pred p
-    → drop at s ≡ write p ++ rest → namesOpen p ≡ false → Found s at p
+found : {s : List ℕ} {at : ℕ} {main pred : Bool} {p : Part} → Placed s (scope s main) (useAt s) 31 pred at p → namesOpen p ≡ false → Found s at p
 unfolding partOf
-found s at main pred p rest f e o =
-    let g = fine-deeper (scope s main) (useAt s) 31 pred p f in
-    let r = reads s (scope s main) (useAt s) mostDepth pred at p rest g e in
+found {s} {at} {main} {pred} {p} h o =
+    let g = fine-deeper (scope s main) (useAt s) 31 pred p (h .fine) in
+    let r = reads s (scope s main) (useAt s) mostDepth pred at p (h .rest) g (h .bytes) in
     record {
       same = r .1;
-      stands = record { main = main; pred = pred; rest = rest; fine = rw (r .1) g; written = rw (r .1) e; closed = rw (r .1) o };
+      stands = record { main = main; pred = pred; rest = h .rest; fine = rw (r .1) g; written = rw (r .1) (h .bytes); closed = rw (r .1) o };
       ends = r .2;
     }
 
@@ -100,13 +85,12 @@ pub record Pair (s : List ℕ) (at : ℕ) (p q : Part) : Type 0 where
   pub first : Found s at p
   pub second : Found s (at + size p) q
 
-pair : (s : List ℕ) (at : ℕ) (main pred : Bool) (p q : Part) (rest : List ℕ) → Fine (scope s main) (useAt s) 31 pred p
-    → Fine (scope s main) (useAt s) 31 pred q → drop at s ≡ (write p ++ write q) ++ rest → (namesOpen p || namesOpen q) ≡ false → Pair s at p q
-pair s at main pred p q rest f g e o =
+pair : {s : List ℕ} {at : ℕ} {main pred : Bool} {p q : Part}
+    → Placed s (scope s main) (useAt s) 31 pred at p × Placed s (scope s main) (useAt s) 31 pred (at + size p) q
+    → (namesOpen p || namesOpen q) ≡ false → Pair s at p q
+pair {p = p} {q = q} h o =
     let b = or-false (namesOpen p) (namesOpen q) o in
-    let e′ : drop at s ≡ write p ++ (write q ++ rest) = e ∙ append-assoc (write p) (write q) rest in
-    let r = reads s (scope s main) (useAt s) 31 pred at p (write q ++ rest) f e′ in
-    record { first = found s at main pred p (write q ++ rest) f e′ (b .0); second = found s (at + size p) main pred q rest g (r .3) (b .1) }
+    record { first = found (h .0) (b .0); second = found (h .1) (b .1) }
 
 -- ---- the parts below a part that stands, by what the part is
 
@@ -114,8 +98,8 @@ module _ {s : List ℕ} {at : ℕ} (h : Stands s at) where
   fine-as : (p : Part) → partOf s at ≡ p → Fine (scope s (h .main)) (useAt s) mostDepth (h .pred) p
   fine-as p e = rw e at (h .fine)
 
-  written-as : (p : Part) → partOf s at ≡ p → drop at s ≡ write p ++ h .rest
-  written-as p e = rw e at (h .written)
+  placed-as : (p : Part) → partOf s at ≡ p → Placed s (scope s (h .main)) (useAt s) mostDepth (h .pred) at p
+  placed-as p e = record { fine = fine-as p e; rest = h .rest; bytes = rw e at (h .written) }
 
   closed-as : (p : Part) → partOf s at ≡ p → namesOpen p ≡ false
   closed-as p e = rw e at (h .closed)
@@ -127,35 +111,25 @@ module _ {s : List ℕ} {at : ℕ} (h : Stands s at) where
   below-set f v e = fine-set (scope s (h .main)) (useAt s) 31 (h .pred) f v (fine-as (Set f v) e)
 
   pub below-not : (p : Part) → partOf s at ≡ Not p → Found s (at + 1) p
-  unfolding write namesOpen
+  unfolding namesOpen
   below-not p e =
-      found s (at + 1) (h .main) true p (h .rest) (fine-not (scope s (h .main)) (useAt s) 31 (h .pred) p (fine-as (Not p) e))
-      (drop-head s at 4 (write p ++ h .rest) (written-as (Not p) e) .2) (closed-as (Not p) e)
+      found (placed-not s (scope s (h .main)) (useAt s) 31 (h .pred) at p (placed-as (Not p) e)) (closed-as (Not p) e)
 
   pub below-sum : (p q : Part) → partOf s at ≡ Sum p q → Pair s (at + 1) p q
-  unfolding write namesOpen
+  unfolding namesOpen
   below-sum p q e =
-      let f = fine-sum (scope s (h .main)) (useAt s) 31 (h .pred) p q (fine-as (Sum p q) e) in
-      pair s (at + 1) (h .main) (h .pred) p q (h .rest) (f .0) (f .1)
-      (drop-head s at 5 ((write p ++ write q) ++ h .rest) (written-as (Sum p q) e) .2) (closed-as (Sum p q) e)
+      pair (placed-sum s (scope s (h .main)) (useAt s) 31 (h .pred) at p q (placed-as (Sum p q) e)) (closed-as (Sum p q) e)
 
   pub below-seq : (p q : Part) → partOf s at ≡ Seq p q → Pair s (at + 1) p q
-  unfolding write namesOpen
+  unfolding namesOpen
   below-seq p q e =
-      let f = fine-seq (scope s (h .main)) (useAt s) 31 (h .pred) p q (fine-as (Seq p q) e) in
-      pair s (at + 1) (h .main) (h .pred) p q (h .rest) (f .0) (f .1)
-      (drop-head s at 6 ((write p ++ write q) ++ h .rest) (written-as (Seq p q) e) .2) (closed-as (Seq p q) e)
+      pair (placed-seq s (scope s (h .main)) (useAt s) 31 (h .pred) at p q (placed-as (Seq p q) e)) (closed-as (Seq p q) e)
 
   pub below-beside : (wp wq : ℕ) (p q : Part) → partOf s at ≡ Beside wp wq p q → Pair s (at + 3) p q
-  unfolding write namesOpen
+  unfolding namesOpen
   below-beside wp wq p q e =
-      let f = fine-beside (scope s (h .main)) (useAt s) 31 (h .pred) wp wq p q (fine-as (Beside wp wq p q) e) in
-      let W : List ℕ = (write p ++ write q) ++ h .rest in
-      let a = drop-head s at 7 (wp ∷ wq ∷ W) (written-as (Beside wp wq p q) e) in
-      let b = drop-head s (at + 1) wp (wq ∷ W) (a .2) in
-      let c = drop-head s (at + 1 + 1) wq W (b .2) in
-      let z : at + 1 + 1 + 1 ≡ at + 3 = omega arith in
-      pair s (at + 3) (h .main) (h .pred) p q (h .rest) (f .0) (f .1) (rw z at (c .2)) (closed-as (Beside wp wq p q) e)
+      let k = placed-as (Beside wp wq p q) e in
+      pair (placed-beside s (scope s (h .main)) (useAt s) 31 (h .pred) at p q wp wq k) (closed-as (Beside wp wq p q) e)
 
   -- a use of a table: its body
   pub below-table : Readable s → (x r w start : ℕ) (p : Part) → partOf s at ≡ Table x r w start p
@@ -176,11 +150,6 @@ module _ {s : List ℕ} {at : ℕ} (h : Stands s at) where
 
 -- ---- what the part at a place is, by its code byte
 
-part-suc : (s : List ℕ) (n : ℕ → Part) (d at : ℕ)
-    → partAt s n (suc d) at ≡ built s n at (getD s at 0) (partAt s n d (below s at)) (partAt s n d (after s d (below s at)))
-unfolding partAt
-part-suc s n d at = refl
-
 module _ (s : List ℕ) (at : ℕ) where
   abbrev first : Part
   first = partAt s (useAt s) 31 (below s at)
@@ -190,7 +159,7 @@ module _ (s : List ℕ) (at : ℕ) where
 
   part-built : (code : ℕ) → getD s at 0 ≡ code → partOf s at ≡ built s (useAt s) at code first second
   unfolding partOf
-  part-built code e = part-suc s (useAt s) 31 at ∙ ap (λ (c : ℕ). built s (useAt s) at c first second) e
+  part-built code e = part-suc s (useAt s) mostDepth at (λ z. omega arith) ∙ ap (λ (c : ℕ). built s (useAt s) at c first second) e
 
   pub part-drop : getD s at 0 ≡ 1 → partOf s at ≡ Drop
   unfolding built
@@ -263,7 +232,7 @@ code-small {s} {at} h =
       | yes l ↦ l
       | no l ↦
           let e : partOf s at ≡ Id = part-id s at (inr (omega arith)) in
-          let k = drop-head s at 0 (h .rest) (written-as h Id e) in
+          let k = drop-head s at 0 (h .rest) (rw e at (h .written)) in
           absurd (omega (arith, k .1))
     ]
 
