@@ -21,11 +21,13 @@ use Rattle.machine.proofs.Slots.{turned-holds, head-holds, mark-holds, 
 pub head-read : (w r : List ℕ) (i : ℕ) → i < 160 → 21760 ≤ length w → r ≡ eightAt w (i * 8) → r ≡ getD (heads w) i []
 head-read w r i h l e = e ∙ eight-at w (i * 8) (omega arith) ∙ sym (head-at w i h)
 
-pub put-stored : (w v : List ℕ) (i : ℕ) (h : List ℕ) → i < 160 → length h ≡ 8 → 21760 ≤ length w → v ≡ storedAt w (i * 8) h → Now w v (set (heads w) i h) (slots w)
+pub put-stored : (w v : List ℕ) (i : ℕ) (h : List ℕ) → i < 160 → length h ≡ 8 → 21760 ≤ length w → v ≡ storedAt w (i * 8) h
+    → Now w v (set (heads w) i h) (slots w)
 put-stored w v i h l k room e =
     let t : take 8 h ≡ h = take-all 8 h (omega arith) in
     let f : v ≡ paste w (i * 8) h 8 =
-    e ∙ stored-at w (i * 8) h (omega arith) k ∙ sym (append-assoc (take (i * 8) w) h (drop (i * 8 + 8) w)) ∙ ap (λ (x : List ℕ). take (i * 8) w ++ x ++ drop (i * 8 + 8) w) (sym t) in
+    e ∙ stored-at w (i * 8) h (omega arith) k ∙ sym (append-assoc (take (i * 8) w) h (drop (i * 8 + 8) w))
+    ∙ ap (λ (x : List ℕ). take (i * 8) w ++ x ++ drop (i * 8 + 8) w) (sym t) in
     subst (λ (x : List ℕ). Now w x (set (heads w) i h) (slots w)) (sym f) (put-head w i h l k room)
 
 module _ (w v₁ v₂ v₃ : List ℕ) (live p : ℕ) (a b : List ℕ) (room : 21760 ≤ length w) (s : Wf (order w)) where
@@ -36,11 +38,14 @@ module _ (w v₁ v₂ v₃ : List ℕ) (live p : ℕ) (a b : List ℕ) (room : 2
       let lh : length (heads w) ≡ 160 = length-heads w in
       let m = move-heads w v₁ p (p + 1) (live - p) (omega arith) (omega arith) room e in
       turned-holds w v₂ p (live - p) 1 s (now-as (now-then m n)
-      (ap (λ (H : List (List ℕ)). set H p a) (m .heads) ∙ ap (set (moved (heads w) p (p + 1) (live - p)) p) (ea ∙ ap (λ (k : ℕ). getD (heads w) k []) (sym z))
+      (ap (λ (H : List (List ℕ)). set H p a) (m .heads)
+      ∙ ap (set (moved (heads w) p (p + 1) (live - p)) p) (ea ∙ ap (λ (k : ℕ). getD (heads w) k []) (sym z))
       ∙ opens-one (heads w) p (live - p) [] (omega arith)) (m .slots))
 
-  pub opened-two : p ≤ live → live + 2 ≤ 160 → a ≡ getD (heads w) live [] → b ≡ getD (heads w) (live + 1) [] → v₁ ≡ moved w (p * 8) ((p + 2) * 8) ((live - p) * 8)
-      → Now v₁ v₂ (set (heads v₁) p a) (slots v₁) → Now v₂ v₃ (set (heads v₂) (p + 1) b) (slots v₂) → Holds w v₃ (turned p (live - p) 2 (all w))
+  pub opened-two : p ≤ live → live + 2 ≤ 160 → a ≡ getD (heads w) live [] → b ≡ getD (heads w) (live + 1) []
+      → v₁ ≡ moved w (p * 8) ((p + 2) * 8) ((live - p) * 8)
+      → Now v₁ v₂ (set (heads v₁) p a) (slots v₁) → Now v₂ v₃ (set (heads v₂) (p + 1) b) (slots v₂)
+      → Holds w v₃ (turned p (live - p) 2 (all w))
   opened-two h l ea eb e n k =
       let z : p + (live - p) ≡ live = omega arith in
       let lh : length (heads w) ≡ 160 = length-heads w in
@@ -60,11 +65,14 @@ module _ (w v₁ v₂ v₃ : List ℕ) (live p : ℕ) (a b : List ℕ) (room : 2
       let m = move-heads w v₁ (p + 1) p (live - p - 1) (omega arith) (omega arith) room e in
       let M : List (List ℕ) = moved (heads w) (p + 1) p (live - p - 1) in
       turned-holds w v₂ p 1 (live - p - 1) s (now-as (now-then m n)
-      (ap (λ (H : List (List ℕ)). set H (live - 1) a) (m .heads) ∙ ap (set M (live - 1)) ea ∙ ap (λ (k : ℕ). set M k (getD (heads w) p [])) z
+      (ap (λ (H : List (List ℕ)). set H (live - 1) a) (m .heads) ∙ ap (set M (live - 1)) ea
+      ∙ ap (λ (k : ℕ). set M k (getD (heads w) p [])) z
       ∙ closes-one (heads w) p (live - p - 1) [] (omega arith)) (m .slots))
 
-  pub closed-two : p + 2 ≤ live → live ≤ 160 → a ≡ getD (heads w) p [] → b ≡ getD (heads w) (p + 1) [] → v₁ ≡ moved w ((p + 2) * 8) (p * 8) ((live - p - 2) * 8)
-      → Now v₁ v₂ (set (heads v₁) (live - 2) a) (slots v₁) → Now v₂ v₃ (set (heads v₂) (live - 1) b) (slots v₂) → Holds w v₃ (turned p 2 (live - p - 2) (all w))
+  pub closed-two : p + 2 ≤ live → live ≤ 160 → a ≡ getD (heads w) p [] → b ≡ getD (heads w) (p + 1) []
+      → v₁ ≡ moved w ((p + 2) * 8) (p * 8) ((live - p - 2) * 8)
+      → Now v₁ v₂ (set (heads v₁) (live - 2) a) (slots v₁) → Now v₂ v₃ (set (heads v₂) (live - 1) b) (slots v₂)
+      → Holds w v₃ (turned p 2 (live - p - 2) (all w))
   closed-two h l ea eb e n k =
       let z : live - 2 ≡ p + (live - p - 2) = omega arith in
       let y : live - 1 ≡ p + (live - p - 2) + 1 = omega arith in
@@ -87,7 +95,8 @@ chunks-take n k l h g =
 module _ (w : List ℕ) (i : ℕ) (h : List ℕ) (l : i < 160) (room : 21760 ≤ length w) (s : Wf (order w)) (e : h ≡ getD (heads w) i []) where
   pub count-is : length (here w i .rows) ≡ getD h 3 0
   unfolding here posOf
-  count-is = length-chunks (getD (getD (heads w) i []) 3 0) (getD (slots w) (slotOf (getD (heads w) i [])) []) ∙ ap (λ (x : List ℕ). getD x 3 0) (sym e)
+  count-is = length-chunks (getD (getD (heads w) i []) 3 0) (getD (slots w) (slotOf (getD (heads w) i [])) [])
+      ∙ ap (λ (x : List ℕ). getD x 3 0) (sym e)
 
   pub slot-is : getD h 4 0 < 160
   slot-is = omega (arith, slot-small w i s l, word-at w i 4 l (omega arith), ap (λ (x : List ℕ). getD x 4 0) e)
@@ -116,7 +125,8 @@ module _ (w : List ℕ) (i : ℕ) (h : List ℕ) (l : i < 160) (room : 21760 ≤
       let lt : length (take (n * 8) X) ≡ n * 8 = length-take-le (n * 8) X (omega arith) in
       let lz : length Z ≡ 128 - n * 8 = length-replicate (128 - n * 8) 0 in
       let r : chunks n v ≡ here w i .rows =
-      ap (chunks n) f ∙ chunks-append n (take (n * 8) X) Z (omega arith) ∙ chunks-take n (n * 8) X (omega arith) (omega arith) ∙ sym (rows-are few) in
+      ap (chunks n) f ∙ chunks-append n (take (n * 8) X) Z (omega arith) ∙ chunks-take n (n * 8) X (omega arith) (omega arith)
+      ∙ sym (rows-are few) in
       record {
         whole = record {
           size = ap length f ∙ length-append (take (n * 8) X) Z ∙ omega arith;
@@ -168,14 +178,16 @@ count-from w i l room =
     (sym e, sym e ∙ sym (length-chunks (getD h 3 0) (getD (slots w) (slotOf h) [])))
 
 -- the law of each function that moves a set, with the numbers that it has at hand
-pub got-set : (w v : List ℕ) (i at n : ℕ) → i < 160 → 21760 ≤ length w → Wf (order w) → length (here w i .rows) ≤ 16 → Ascending (here w i .rows)
+pub got-set : (w v : List ℕ) (i at n : ℕ) → i < 160 → 21760 ≤ length w → Wf (order w) → length (here w i .rows) ≤ 16
+    → Ascending (here w i .rows)
     → at ≡ 1280 + getD (getD (heads w) i []) 4 0 * 128 → n ≡ getD (getD (heads w) i []) 3 0
     → v ≡ take (n * 8) (drop at w) ++ replicate (128 - n * 8) 0
     → Is (record { values = v; count = n; mask = getD w (i * 8 + 2) 0 % 256 }) (here w i .mask) (here w i .rows)
 got-set w v i at n l room s few up ea en f =
     rw (← en, word-at w i 2 l (omega arith)) at (got w i (getD (heads w) i []) l room s refl v few up (rw (ea, en) at f))
 
-pub has-put : (w v₁ v : List ℕ) (i at : ℕ) (h : List ℕ) (p : PacketSet) → i < 160 → 21760 ≤ length w → Wf (order w) → h ≡ getD (heads w) i []
+pub has-put : (w v₁ v : List ℕ) (i at : ℕ) (h : List ℕ) (p : PacketSet) → i < 160 → 21760 ≤ length w → Wf (order w)
+    → h ≡ getD (heads w) i []
     → Whole p → at ≡ 1280 + getD (getD (heads w) i []) 4 0 * 128 → Now w v₁ (set (heads w) i (givenHead h (p .count))) (slots w)
     → v ≡ paste v₁ at (p .values) (p .count * 8) → Holds w v (set (all w) i (given (here w i) (rows p)))
 has-put w v₁ v i at h p l room s e k ea a f =
@@ -183,9 +195,11 @@ has-put w v₁ v i at h p l room s e k ea a f =
     (f ∙ ap (λ (x : ℕ). paste v₁ x (p .values) (p .count * 8)) (ea ∙ ap (λ (x : List ℕ). 1280 + getD x 4 0 * 128) (sym e)))
 
 -- the packets of i from number k on given to j
-module _ (w v₁ v : List ℕ) (i j k from to n : ℕ) (h : List ℕ) (li : i < 160) (lj : j < 160) (room : 21760 ≤ length w) (s : Wf (order w)) where
+module _ (w v₁ v : List ℕ) (i j k from to n : ℕ) (h : List ℕ) (li : i < 160) (lj : j < 160) (room : 21760 ≤ length w)
+    (s : Wf (order w)) where
   pub has-copied : h ≡ getD (heads w) j [] → length (here w i .rows) ≤ 16 → k ≤ n
-      → from ≡ 1280 + getD (getD (heads w) i []) 4 0 * 128 → to ≡ 1280 + getD (getD (heads w) j []) 4 0 * 128 → n ≡ getD (getD (heads w) i []) 3 0
+      → from ≡ 1280 + getD (getD (heads w) i []) 4 0 * 128 → to ≡ 1280 + getD (getD (heads w) j []) 4 0 * 128
+      → n ≡ getD (getD (heads w) i []) 3 0
       → Now w v₁ (set (heads w) j (givenHead h (n - k))) (slots w) → v ≡ moved v₁ (from + k * 8) to ((n - k) * 8)
       → Holds w v (set (all w) j (given (here w j) (drop k (here w i .rows))))
   unfolding here posOf
@@ -207,7 +221,12 @@ module _ (w v₁ v : List ℕ) (i j k from to n : ℕ) (h : List ℕ) (li : i < 
       let t : to ≡ 1280 + getD h 4 0 * 128 = et ∙ ap (λ (x : List ℕ). 1280 + getD x 4 0 * 128) (sym e) in
       let o = gives-one w j h lj room s e v₁ v (drop (from + k * 8) v₁) (n - k) (omega arith) (omega arith) a
       (m ∙ ap (λ (x : ℕ). paste v₁ x (drop (from + k * 8) v₁) ((n - k) * 8)) t) in
-      record { all = o .all ∙ ap (λ (rs : Packets). set (all w) j (given (here w j) rs)) d; sound = o .sound; kept = o .kept; long = o .long }
+      record {
+        all = o .all ∙ ap (λ (rs : Packets). set (all w) j (given (here w j) rs)) d;
+        sound = o .sound;
+        kept = o .kept;
+        long = o .long;
+      }
 
 -- only the first packet kept
 pub has-first : (w v : List ℕ) (i : ℕ) (h : List ℕ) → i < 160 → Wf (order w) → h ≡ getD (heads w) i [] → 1 ≤ length (here w i .rows)
@@ -237,7 +256,8 @@ load-turn w v at i h k e =
     ∙ lib.Seq.set-at (take i X) 0 R (getD w (at + i) 0) i lt
     ∙ ap (λ (x : ℕ). take i X ++ (x ∷ R)) (sym (lib.Seq.getD-drop at w i 0))
     ∙ sym (append-assoc (take i X) (getD X i 0 ∷ []) R)
-    ∙ ap (λ (l : List ℕ). l ++ R) (sym (ap (λ (n : ℕ). take n X) (native.Mathlib.Numerals.add-one i) ∙ lib.Seq.take-suc X i 0 (omega arith)))
+    ∙ ap (λ (l : List ℕ). l ++ R) (sym (ap (λ (n : ℕ). take n X) (native.Mathlib.Numerals.add-one i)
+    ∙ lib.Seq.take-suc X i 0 (omega arith)))
 
 -- where a position stands, as its header says
 pub spot-from : (w h : List ℕ) (i : ℕ) → h ≡ getD (heads w) i [] → (getD h 0 0 ≡ here w i .place) × (getD h 2 0 % 256 ≡ here w i .mask)

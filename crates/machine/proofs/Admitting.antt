@@ -17,7 +17,8 @@ use Rattle.rules.specs.Answers.{start, startSpot, startSet}
 use Rattle.rules.proofs.Decoding.{Bytes, reads}
 use Rattle.rules.proofs.Standing as R
 use Rattle.rules.proofs.Whole.{FineBody, tableAt, entries-read}
-use Rattle.rules.proofs.AcceptedBooks.{accepted-readable, accepted-length, accepted-fields, accepted-right, accepted-tested, accepted-written}
+use Rattle.rules.proofs.AcceptedBooks.{accepted-readable, accepted-length, accepted-fields, accepted-right, accepted-tested}
+use Rattle.rules.proofs.AcceptedBooks.{accepted-written}
 use Rattle.rules.proofs.Stuck.{never-stuck}
 use Rattle.machine.specs.Shown.{partOf, Stands, Readable}
 
@@ -68,7 +69,8 @@ module _ (s : List ℕ) (z : Sizes) (v : verdict s ≡ Accepted z) (small : Byte
   table = scopeOf (fieldsOf s) (tablesOf s) false
 
   -- a table's body stands where it starts
-  body-there : (x : ℕ) (p : Part) → bodyAt s x ≡ some p → R.Stands s x (tableAt s x) × OfBody (FineBody (fieldsOf s) (tablesOf s)) (bodyAt s x)
+  body-there : (x : ℕ) (p : Part) → bodyAt s x ≡ some p
+      → R.Stands s x (tableAt s x) × OfBody (FineBody (fieldsOf s) (tablesOf s)) (bodyAt s x)
       → (partOf s (bodyStart s x) ≡ p) × Stands s (bodyStart s x)
   unfolding bytesOf partOf
   body-there x p e h =
@@ -94,7 +96,8 @@ module _ (s : List ℕ) (z : Sizes) (v : verdict s ≡ Accepted z) (small : Byte
       record {
         fields = accepted-fields s z v .1;
         short = accepted-length s z v;
-        bodies = λ x p l u e. go x p l u e (tables-at s (λ y. OfBody (FineBody (fieldsOf s) (tablesOf s)) (y .body)) (tablesOf s) 1) (r .0 .1) (r .2);
+        bodies = λ x p l u e. go x p l u e (tables-at s (λ y. OfBody (FineBody (fieldsOf s) (tablesOf s)) (y .body)) (tablesOf s) 1)
+            (r .0 .1) (r .2);
       }
     where
       F : Entry → Type 0
@@ -120,4 +123,5 @@ module _ (s : List ℕ) (z : Sizes) (v : verdict s ≡ Accepted z) (small : Byte
   pub accepted-goes : (packet schedule : List ℕ) → stuckIn (start s packet) schedule ≡ []
   unfolding start
   accepted-goes packet schedule =
-      never-stuck (startSpot s) (mainOf s) (accepted-right s z v small) (accepted-tested s z v small) (accepted-written s z v small) (startSet packet) schedule .1
+      never-stuck (startSpot s) (mainOf s) (accepted-right s z v small) (accepted-tested s z v small) (accepted-written s z v small)
+      (startSet packet) schedule .1

@@ -6,8 +6,10 @@ use native.Mathlib.Nat.{add-zero, zero-add, add-mul, suc-add}
 use native.Mathlib.Numerals.{add-one}
 use native.Mathlib.Omega.{arith}
 use lib.ListN.{length, take, drop, getD, set, length-set, length-drop, length-append, take-append-drop, List·getD-append}
-use lib.Seq.{drop-set-lt, drop-paste, length-paste, paste, drop-drop, take-append-le, drop-append-le, length-take-le, take-take, getD-take, getD-drop, take-at, drop-at, take-add}
-use Rattle.machine.proofs.Blocks.{length-blocks, blocks-add, blocks-front, blocks-take, getD-blocks, set-blocks, blocks-put, blocks-paste, take-blocks, drop-blocks, moved, paste-shift}
+use lib.Seq.{drop-set-lt, drop-paste, length-paste, paste, drop-drop, take-append-le, drop-append-le, length-take-le, take-take, getD-take}
+use lib.Seq.{getD-drop, take-at, drop-at, take-add}
+use Rattle.machine.proofs.Blocks.{length-blocks, blocks-add, blocks-front, blocks-take, getD-blocks, set-blocks, blocks-put}
+use Rattle.machine.proofs.Blocks.{blocks-paste, take-blocks, drop-blocks, moved, paste-shift}
 use Rattle.machine.specs.Area.{blocks, heads, slots, Now}
 
 pub length-heads : (w : List ℕ) → length (heads w) ≡ 160
@@ -40,7 +42,8 @@ unfolding slots
 slot-at w s h = getD-blocks 128 s 160 (drop 1280 w) h ∙ ap (take 128) (drop-drop (s * 128) 1280 w)
 
 -- one header word written
-pub set-word : (w : List ℕ) (i j x : ℕ) → i < 160 → j < 8 → 21760 ≤ length w → Now w (set w (i * 8 + j) x) (set (heads w) i (set (getD (heads w) i []) j x)) (slots w)
+pub set-word : (w : List ℕ) (i j x : ℕ) → i < 160 → j < 8 → 21760 ≤ length w
+    → Now w (set w (i * 8 + j) x) (set (heads w) i (set (getD (heads w) i []) j x)) (slots w)
 unfolding heads slots
 set-word w i j x h l room = record {
   heads = set-blocks 8 i 160 j w x h l;
@@ -50,7 +53,8 @@ set-word w i j x h l room = record {
 }
 
 -- words pasted among the headers
-drop-past : (w : List ℕ) (at : ℕ) (s : List ℕ) (n k : ℕ) → at + n ≤ length w → n ≤ length s → at + n ≤ k → drop k (paste w at s n) ≡ drop k w
+drop-past : (w : List ℕ) (at : ℕ) (s : List ℕ) (n k : ℕ) → at + n ≤ length w → n ≤ length s → at + n ≤ k
+    → drop k (paste w at s n) ≡ drop k w
 drop-past w at s n k h l g =
     let z : k ≡ (at + n) + (k - (at + n)) = omega arith in
     ap (λ (x : ℕ). drop x (paste w at s n)) z ∙ sym (drop-drop (k - (at + n)) (at + n) (paste w at s n))
@@ -70,11 +74,13 @@ paste-all S a m r w s h l =
     let u : take m (blocks S m s) ≡ blocks S m s = lib.Seq.take-all m (blocks S m s) (omega arith) in
     blocks-add S (a + m) r v
     ∙ ap (λ (b : List (List ℕ)). b ++ blocks S r (drop ((a + m) * S) v)) (blocks-paste S a m w s (omega arith) l)
-    ∙ ap (λ (b : List ℕ). (blocks S a w ++ blocks S m s) ++ blocks S r b) (ap (λ (k : ℕ). drop k v) f ∙ drop-paste w (a * S) s (m * S) (omega arith) l ∙ ap (λ (k : ℕ). drop k w) (sym f))
+    ∙ ap (λ (b : List ℕ). (blocks S a w ++ blocks S m s) ++ blocks S r b)
+    (ap (λ (k : ℕ). drop k v) f ∙ drop-paste w (a * S) s (m * S) (omega arith) l ∙ ap (λ (k : ℕ). drop k w) (sym f))
     ∙ ap (λ (b : List (List ℕ)). (blocks S a w ++ blocks S m s) ++ b) (sym (drop-blocks S (a + m) r w))
     ∙ rw (t, u)
 
-pub put-head : (w : List ℕ) (i : ℕ) (h : List ℕ) → i < 160 → length h ≡ 8 → 21760 ≤ length w → Now w (paste w (i * 8) h 8) (set (heads w) i h) (slots w)
+pub put-head : (w : List ℕ) (i : ℕ) (h : List ℕ) → i < 160 → length h ≡ 8 → 21760 ≤ length w
+    → Now w (paste w (i * 8) h 8) (set (heads w) i h) (slots w)
 unfolding heads slots
 put-head w i h l k room =
     record {
@@ -98,27 +104,33 @@ move-heads w v from to m h l room e =
     ap (take m) (d ∙ ap (λ (k : ℕ). blocks 8 k (drop (from * 8) w)) q) ∙ take-blocks 8 m (160 - from - m) (drop (from * 8) w) in
     let g = rw z at (paste-all 8 to m (160 - (to + m)) w (drop (from * 8) w) (omega arith) (omega arith)) in
     let u : take m (blocks 8 m (drop (from * 8) w)) ≡ blocks 8 m (drop (from * 8) w) =
-    lib.Seq.take-all m (blocks 8 m (drop (from * 8) w)) (let k : length (blocks 8 m (drop (from * 8) w)) ≡ m = length-blocks 8 m (drop (from * 8) w) in omega arith) in
+    lib.Seq.take-all m (blocks 8 m (drop (from * 8) w))
+    (let k : length (blocks 8 m (drop (from * 8) w)) ≡ m = length-blocks 8 m (drop (from * 8) w) in omega arith) in
     record {
-      heads = ap (blocks 8 160) e ∙ g ∙ ap (λ (b : List (List ℕ)). take to (blocks 8 160 w) ++ b ++ drop (to + m) (blocks 8 160 w)) (u ∙ sym t);
-      slots = ap (λ (x : List ℕ). blocks 128 160 (drop 1280 x)) e ∙ ap (blocks 128 160) (drop-past w (to * 8) (drop (from * 8) w) (m * 8) 1280 (omega arith) (omega arith) (omega arith));
+      heads = ap (blocks 8 160) e ∙ g ∙ ap (λ (b : List (List ℕ)). take to (blocks 8 160 w) ++ b ++ drop (to + m) (blocks 8 160 w))
+          (u ∙ sym t);
+      slots = ap (λ (x : List ℕ). blocks 128 160 (drop 1280 x)) e
+          ∙ ap (blocks 128 160) (drop-past w (to * 8) (drop (from * 8) w) (m * 8) 1280 (omega arith) (omega arith) (omega arith));
       kept = ap (drop 21760) e ∙ drop-past w (to * 8) (drop (from * 8) w) (m * 8) 21760 (omega arith) (omega arith) (omega arith);
       long = ap length e ∙ length-paste w (to * 8) (drop (from * 8) w) (m * 8) (omega arith) (omega arith);
     }
 
 -- n values pasted at the start of a slot
-blocks-part : (S s n N : ℕ) (w x : List ℕ) → s < N → n ≤ S → N * S ≤ length w → n ≤ length x → blocks S N (paste w (s * S) x n) ≡ set (blocks S N w) s (paste (getD (blocks S N w) s []) 0 x n)
+blocks-part : (S s n N : ℕ) (w x : List ℕ) → s < N → n ≤ S → N * S ≤ length w → n ≤ length x
+    → blocks S N (paste w (s * S) x n) ≡ set (blocks S N w) s (paste (getD (blocks S N w) s []) 0 x n)
 blocks-part S s n zero w x h l k g = absurd (omega arith)
 blocks-part S zero n (suc N) w x h l k g =
     let f : suc N * S ≡ S + N * S = omega (arith, native.Mathlib.Nat.suc-mul N S) in
     let lx : length (take n x) ≡ n = length-take-le n x g in
     let lw : length (take S w) ≡ S = length-take-le S w (omega arith) in
     let ld : length (drop n (take S w)) ≡ length (take S w) - n = length-drop n (take S w) in
-    let sw : drop n w ≡ drop n (take S w) ++ drop S w = ap (drop n) (sym (take-append-drop S w)) ∙ drop-append-le n (take S w) (drop S w) (omega arith) in
+    let sw : drop n w ≡ drop n (take S w) ++ drop S w = ap (drop n) (sym (take-append-drop S w))
+    ∙ drop-append-le n (take S w) (drop S w) (omega arith) in
     let P : List ℕ = take n x ++ drop n (take S w) in
     let lP : length P ≡ S = length-append (take n x) (drop n (take S w)) ∙ omega arith in
     let e : paste w (0 * S) x n ≡ P ++ drop S w =
-    ap (λ (k : ℕ). take k w ++ take n x ++ drop (k + n) w) (native.Mathlib.Nat.zero-mul S) ∙ ap (λ (k : ℕ). take n x ++ drop k w) (zero-add n)
+    ap (λ (k : ℕ). take k w ++ take n x ++ drop (k + n) w) (native.Mathlib.Nat.zero-mul S)
+    ∙ ap (λ (k : ℕ). take n x ++ drop k w) (zero-add n)
     ∙ ap (λ (b : List ℕ). take n x ++ b) sw ∙ sym (append-assoc (take n x) (drop n (take S w)) (drop S w)) in
     ap (blocks S (suc N)) e
     ∙ ap (λ (b : List ℕ). b ∷ blocks S N (drop S (P ++ drop S w))) (take-at P (drop S w) S lP)

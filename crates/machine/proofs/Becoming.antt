@@ -6,7 +6,8 @@ use native.Mathlib.Nat.{suc-add, add-zero}
 use native.Mathlib.Numerals.{add-one}
 use native.Mathlib.Omega.{arith}
 use lib.ListN.{length, take, drop, getD, set, length-drop, length-append, length-take, length-set, take-append-drop, List·getD-append}
-use lib.Seq.{take-set-lt, length-take-le, drop-drop, take-append-le, drop-append-le, take-at, drop-at, take-add, getD-take, getD-append-add, drop-cons, set-append-left, set-set, getD-set-same}
+use lib.Seq.{take-set-lt, length-take-le, drop-drop, take-append-le, drop-append-le, take-at, drop-at, take-add, getD-take, getD-append-add}
+use lib.Seq.{drop-cons, set-append-left, set-set, getD-set-same}
 use Rattle.rules.specs.Packets.{Packets}
 use Rattle.machine.specs.Area.{slots, turned, Pos, posOf, here, all, nodes, order, Wf, Holds, marked, given, finished, Becomes}
 use Rattle.machine.proofs.Blocks.{set-append-add}
@@ -36,11 +37,13 @@ unfolding finished given marked
 has-finished w v₁ v i place mask rs h ep em p q =
     let x : Pos = here w i in
     let la : length (all w) ≡ 160 = length-all w in
-    let e : here v₁ i ≡ given x rs = here-is v₁ i x h ∙ ap (λ (A : List Pos). getD A i x) (p .all) ∙ getD-set-same (all w) i (given x rs) x (omega arith) in
+    let e : here v₁ i ≡ given x rs = here-is v₁ i x h ∙ ap (λ (A : List Pos). getD A i x) (p .all)
+    ∙ getD-set-same (all w) i (given x rs) x (omega arith) in
     record {
       all =
           q .all ∙ ap (λ (A : List Pos). set A i (marked (here v₁ i) place 1 mask)) (p .all)
-          ∙ set-set (all w) i (given x rs) (marked (here v₁ i) place 1 mask) ∙ ap (λ (y : Pos). set (all w) i (marked y place 1 mask)) e ∙ rw (ep, em);
+          ∙ set-set (all w) i (given x rs) (marked (here v₁ i) place 1 mask) ∙ ap (λ (y : Pos). set (all w) i (marked y place 1 mask)) e
+          ∙ rw (ep, em);
       sound = q .sound;
       kept = q .kept ∙ p .kept;
       long = q .long ∙ p .long;
@@ -79,7 +82,8 @@ module _ (w : List ℕ) (live i : ℕ) (l : live ≤ 160) (s : Wf (order w)) whe
   one-begins h =
       let n : length (nodes w live) ≡ live = length-nodes w live l in
       let d : Pos = here w i in
-      begins 1 (here w i ∷ []) (take-one i (nodes w live) d (omega arith) ∙ ap (λ (x : Pos). x ∷ []) (node-is w live i d h l)) refl (omega arith)
+      begins 1 (here w i ∷ []) (take-one i (nodes w live) d (omega arith) ∙ ap (λ (x : Pos). x ∷ []) (node-is w live i d h l)) refl
+      (omega arith)
 
   pub two-begin : i + 1 < live → Becomes w w live live i 2 (here w i ∷ here w (i + 1) ∷ [])
   two-begin h =
@@ -97,7 +101,8 @@ module _ (w : List ℕ) (live i : ℕ) (l : live ≤ 160) (s : Wf (order w)) whe
       begins 3 (here w i ∷ here w (i + 1) ∷ here w (i + 2) ∷ [])
       (ap (take 3) (drop-cons N i d (omega arith))
       ∙ ap (λ (q : List Pos). getD N i d ∷ q) (ap (λ (j : ℕ). take 2 (drop j N)) (sym (add-one i)) ∙ take-two (i + 1) N d (omega arith))
-      ∙ rw (node-is w live i d (omega arith) l, e, node-is w live (i + 1) d (omega arith) l, node-is w live (i + 2) d h l)) refl (omega arith)
+      ∙ rw (node-is w live i d (omega arith) l, e, node-is w live (i + 1) d (omega arith) l, node-is w live (i + 2) d h l)) refl
+      (omega arith)
 
 -- ---- one act more
 
@@ -127,7 +132,8 @@ module _ {w v : List ℕ} {live r i k : ℕ} {new : List Pos} (b : Becomes w v l
       record {
         held =
             ap (take r) (n .all) ∙ take-set-lt r (all v) j x g ∙ ap (λ (q : List Pos). set q j x) (b .held)
-            ∙ ap (λ (q : ℕ). set (P ++ (new ++ D)) q x) z ∙ set-append-add P (new ++ D) m x ∙ ap (λ (q : List Pos). P ++ q) (set-append-left new D m x h);
+            ∙ ap (λ (q : ℕ). set (P ++ (new ++ D)) q x) z ∙ set-append-add P (new ++ D) m x
+            ∙ ap (λ (q : List Pos). P ++ q) (set-append-left new D m x h);
         size = omega (arith, b .size, length-set new m x);
         fits = b .fits;
         few = b .few;
@@ -138,7 +144,8 @@ module _ {w v : List ℕ} {live r i k : ℕ} {new : List Pos} (b : Becomes w v l
       }
 
   pub then-marked : (u : List ℕ) (m j : ℕ) (d : Pos) (place phase mask : ℕ) → j ≡ i + m → m < length new
-      → Holds v u (set (all v) j (marked (here v j) place phase mask)) → Becomes w u live r i k (set new m (marked (getD new m d) place phase mask))
+      → Holds v u (set (all v) j (marked (here v j) place phase mask))
+      → Becomes w u live r i k (set new m (marked (getD new m d) place phase mask))
   then-marked u m j d place phase mask e h n =
       rw (here-new m j d e h) at (then-set u m j (marked (here v j) place phase mask) e h n)
 
@@ -170,7 +177,14 @@ module _ {w v : List ℕ} {live r i k : ℕ} {new : List Pos} (b : Becomes w v l
             ∙ ap (λ (x : List Pos). (P ++ take m new) ++ (Q ++ x)) (drop-mid P new D i m front h)
             ∙ simp append-assoc;
         size =
-            omega (arith, length-append (take m new) (Q ++ drop m new), length-append Q (drop m new), length-take-le m new h, length-drop m new);
+            omega (
+              arith,
+              length-append (take m new) (Q ++ drop m new),
+              length-append Q
+                  (drop m new),
+              length-take-le m new h,
+              length-drop m new,
+            );
         fits = f;
         few = b .few;
         room = g;
@@ -238,7 +252,8 @@ before-as {w} {v} {live} {r} {i} {k} {new} b j h =
     let s : r + k ≡ live + length new = b .size in
     let f : i + k ≤ live = b .fits in
     sym (node-is v r j d (omega arith) (b .room)) ∙ ap (λ (q : List Pos). getD q j d) (b .held)
-    ∙ List·getD-append (take i N) (new ++ drop (i + k) N) d j (omega (arith, front b)) ∙ getD-take i N j d h ∙ node-is w live j d (omega arith) (b .few)
+    ∙ List·getD-append (take i N) (new ++ drop (i + k) N) d j (omega (arith, front b)) ∙ getD-take i N j d h
+    ∙ node-is w live j d (omega arith) (b .few)
 
 -- c of the new positions become others
 pub becomes-in : {w v u : List ℕ} {live r n i k c : ℕ} {new more : List Pos} (m j : ℕ) → j ≡ i + m → m + c ≤ length new

@@ -14,7 +14,8 @@ module _ (s : List ℕ) {w v : List ℕ} {live n i k : ℕ} {Y : Pos} (b : Becom
   only-is : here v i ≡ Y
   only-is = here-new b 0 i Y (omega arith) (omega arith)
 
-  pub only-stands : 21760 ≤ length w → length s ≤ 4096 → n + length (flat (placing s Y)) ≤ 161 → 1 ≤ n → i < n → Y .phase ≡ 0 → Stands s (Y .place)
+  pub only-stands : 21760 ≤ length w → length s ≤ 4096 → n + length (flat (placing s Y)) ≤ 161 → 1 ≤ n → i < n → Y .phase ≡ 0
+      → Stands s (Y .place)
       → Standing s v n i (placing s (here v i))
   only-stands area short room some there ph st = rw only-is (record {
     there = there;
@@ -29,7 +30,8 @@ module _ (s : List ℕ) {w v : List ℕ} {live n i k : ℕ} {Y : Pos} (b : Becom
 
   pub only-turns : (u : List ℕ) (r : ℕ) → Turns s v u n r i 1 (flat (placing s (here v i))) → Turns s w u live r i k (flat (placing s Y))
   only-turns u r t =
-      turns-as (turns-in 0 i (omega arith) (omega arith) (turns-by {s = s} b refl) (turns-as t (ap (λ (y : Pos). flat (placing s y)) only-is)))
+      turns-as (turns-in 0 i (omega arith) (omega arith) (turns-by {s = s} b refl)
+      (turns-as t (ap (λ (y : Pos). flat (placing s y)) only-is)))
       (append-nil (flat (placing s Y)))
 
 -- one part to be placed below one position
@@ -53,11 +55,13 @@ module _ (s : List ℕ) {w v : List ℕ} {live i : ℕ} {X Y : Pos} (new : List 
 
   pub one-turns : (u : List ℕ) (r : ℕ) → Turns s v u (live + 1) r (i + 1) 1 (flat (placing s (here v (i + 1)))) → Turns s w u live r i 1 new
   one-turns u r t =
-      turns-as (turns-in 1 (i + 1) refl (omega arith) (turns-by {s = s} b refl) (turns-as t (ap (λ (y : Pos). flat (placing s y)) second-is)))
+      turns-as (turns-in 1 (i + 1) refl (omega arith) (turns-by {s = s} b refl)
+      (turns-as t (ap (λ (y : Pos). flat (placing s y)) second-is)))
       (simp append-nil (sym e))
 
 -- two parts to be placed below one position
-module _ (s : List ℕ) {w v : List ℕ} {live i : ℕ} {X Y Z : Pos} (new : List Live) (e : new ≡ meant s X ∷ (flat (placing s Y) ++ flat (placing s Z)))
+module _ (s : List ℕ) {w v : List ℕ} {live i : ℕ} {X Y Z : Pos} (new : List Live)
+    (e : new ≡ meant s X ∷ (flat (placing s Y) ++ flat (placing s Z)))
     (b : Becomes w v live (live + 2) i 1 (X ∷ Y ∷ Z ∷ [])) where
   left-is : here v (i + 1) ≡ Y
   left-is = here-new b 1 (i + 1) Y refl (omega arith)
@@ -65,7 +69,8 @@ module _ (s : List ℕ) {w v : List ℕ} {live i : ℕ} {X Y Z : Pos} (new : Lis
   right-is : here v (i + 2) ≡ Z
   right-is = here-new b 2 (i + 2) Y refl (omega arith)
 
-  pub two-stand : 21760 ≤ length w → length s ≤ 4096 → live + length new ≤ 161 → Y .phase ≡ 0 → Z .phase ≡ 0 → Stands s (Y .place) → Stands s (Z .place)
+  pub two-stand : 21760 ≤ length w → length s ≤ 4096 → live + length new ≤ 161 → Y .phase ≡ 0 → Z .phase ≡ 0 → Stands s (Y .place)
+      → Stands s (Z .place)
       → StandingTwo s v (live + 2) i
   two-stand area short room py pz sy sz =
       let l : length (flat (placing s (here v (i + 1)))) ≡ length (flat (placing s Y)) = rw left-is in
@@ -84,7 +89,8 @@ module _ (s : List ℕ) {w v : List ℕ} {live i : ℕ} {X Y Z : Pos} (new : Lis
       }
 
   pub two-turn : (u : List ℕ) (r : ℕ)
-      → Turns s v u (live + 2) r (i + 1) 2 (flat (placing s (here v (i + 1))) ++ flat (placing s (here v (i + 2)))) → Turns s w u live r i 1 new
+      → Turns s v u (live + 2) r (i + 1) 2 (flat (placing s (here v (i + 1))) ++ flat (placing s (here v (i + 2))))
+      → Turns s w u live r i 1 new
   two-turn u r t =
       turns-as (turns-in 1 (i + 1) refl (omega arith) (turns-by {s = s} b refl)
       (turns-as t (ap (λ (y : Pos). flat (placing s y) ++ flat (placing s (here v (i + 2)))) left-is

@@ -13,7 +13,8 @@ use Rattle.rules.specs.States.{Spot, on, losing, Tree, placed, done, both, spli
 use Rattle.packets.specs.declared.PacketSet.{PacketSet}
 use Rattle.packets.specs.Rows.{rows, Is}
 use Rattle.machine.specs.Area.{turned, Pos, here, all, order, Wf, Holds, marked, given, Becomes, Parts}
-use Rattle.machine.specs.Shown.{Placed, Done, Both, flat, partOf, spotOf, joinOf, meantBy, meant, Turns, placing, entering, StandingTwo, Entering}
+use Rattle.machine.specs.Shown.{Placed, Done, Both, flat, partOf, spotOf, joinOf, meantBy, meant, Turns, placing, entering}
+use Rattle.machine.specs.Shown.{StandingTwo, Entering}
 use Rattle.machine.proofs.Becoming.{one-begins, here-new, then-set, then-marked, then-given, then-opened-one, then-opened-two}
 use Rattle.machine.proofs.Turning.{turns-by, turns-as, flat-some}
 use Rattle.machine.proofs.Below.{two-stand, two-turn}
@@ -28,7 +29,8 @@ module _ (o : Spot) (wp wq : ℕ) (p q : Part) where
   enter-none (x ∷ S) e = absurd (omega arith)
 
   enter-one : (S : Packets) → length S ≡ 1 → enter o (Beside wp wq p q) S
-      ≡ both (paired wp wq) (place (losing wq (on 3 o)) p (gathered (map (without wq) S))) (place (losing wp (on (3 + size p) o)) q (gathered (map (without wp) S)))
+      ≡ both (paired wp wq) (place (losing wq (on 3 o)) p (gathered (map (without wq) S)))
+      (place (losing wp (on (3 + size p) o)) q (gathered (map (without wp) S)))
   unfolding enter union insert
   enter-one [] e = absurd (omega arith)
   enter-one (x ∷ []) e = refl
@@ -63,15 +65,18 @@ module _ (s w : List ℕ) (live i : ℕ) (h : Entering s w live i 7) where
   whole : partOf s (here w i .place) ≡ Beside wp wq left right
   whole = beside-below (h .standing .stands) (h .reads) .0
 
-  entering-is : (t : Tree) → enter (spotOf (here w i)) (Beside wp wq left right) (here w i .rows) ≡ t → flat (entering s (here w i)) ≡ flat t
+  entering-is : (t : Tree) → enter (spotOf (here w i)) (Beside wp wq left right) (here w i .rows) ≡ t
+      → flat (entering s (here w i)) ≡ flat t
   entering-is t e = ap (λ (p : Part). flat (enter (spotOf (here w i)) p (here w i .rows))) whole ∙ ap flat e
 
   -- none: finished with none
-  pub none-entered : (v : List ℕ) (n pl mask : ℕ) → n ≡ length (here w i .rows) → n ≡ 0 → Holds w v (set (all w) i (marked (here w i) pl 1 mask))
+  pub none-entered : (v : List ℕ) (n pl mask : ℕ) → n ≡ length (here w i .rows) → n ≡ 0
+      → Holds w v (set (all w) i (marked (here w i) pl 1 mask))
       → Turns s w v live live i 1 (flat (entering s (here w i)))
   unfolding marked meantBy flat
   none-entered v n pl mask en z m =
-      turns-as (turns-by (then-marked (one-begins w live i (h .standing .few) (h .standing .sound) (h .standing .there)) v 0 i (here w i) pl 1 mask
+      turns-as (turns-by (then-marked (one-begins w live i (h .standing .few) (h .standing .sound) (h .standing .there)) v 0 i
+      (here w i) pl 1 mask
       (omega arith) (omega arith) m) refl)
       (sym (entering-is (done (here w i .rows)) (enter-none (spotOf (here w i)) wp wq left right (here w i .rows) (sym en ∙ z))))
 
@@ -90,7 +95,8 @@ module _ (s w : List ℕ) (live i : ℕ) (h : Entering s w live i 7) where
   pub more-fits : 2 ≤ length (here w i .rows) → live + 2 ≤ 160
   more-fits l = omega (arith, h .standing .room, ap length (more-flat l))
 
-  pub more-entered : (v : List ℕ) → 2 ≤ length (here w i .rows) → Parts w v live i → Turns s w v live (live + 2) i 1 (flat (entering s (here w i)))
+  pub more-entered : (v : List ℕ) → 2 ≤ length (here w i .rows) → Parts w v live i
+      → Turns s w v live (live + 2) i 1 (flat (entering s (here w i)))
   unfolding marked given meantBy joinOf
   more-entered v l b = turns-by (b .becomes) (sym (more-flat l))
 
@@ -99,13 +105,16 @@ module _ (s w : List ℕ) (live i : ℕ) (h : Entering s w live i 7) where
   sideX = marked (here w live) (here w i .place) 6 (here w i .mask)
 
   abbrev sideY : Pos
-  sideY = marked (given (here w (live + 1)) (gathered (map (without wq) (here w i .rows)))) (here w i .place + 3) 0 (less (here w i .mask) wq)
+  sideY = marked (given (here w (live + 1)) (gathered (map (without wq) (here w i .rows)))) (here w i .place + 3) 0
+      (less (here w i .mask) wq)
 
   abbrev sideZ : Pos
   sideZ =
-      marked (given (here w i) (gathered (map (without wp) (here w i .rows)))) (after s mostDepth (here w i .place + 3)) 0 (less (here w i .mask) wp)
+      marked (given (here w i) (gathered (map (without wp) (here w i .rows)))) (after s mostDepth (here w i .place + 3)) 0
+      (less (here w i .mask) wp)
 
-  side-flat : length (here w i .rows) ≡ 1 → flat (entering s (here w i)) ≡ meant s sideX ∷ (flat (placing s sideY) ++ flat (placing s sideZ))
+  side-flat : length (here w i .rows) ≡ 1 → flat (entering s (here w i))
+      ≡ meant s sideX ∷ (flat (placing s sideY) ++ flat (placing s sideZ))
   unfolding flat marked given meantBy joinOf
   side-flat l =
       let x : Pos = here w i in
@@ -114,7 +123,8 @@ module _ (s w : List ℕ) (live i : ℕ) (h : Entering s w live i 7) where
       let e : x .place + (3 + size left) ≡ after s mostDepth (x .place + 3) = omega (arith, two .ends) in
       entering-is (both (paired wp wq) L (place (losing wp (on (3 + size left) o)) right (gathered (map (without wp) (x .rows)))))
       (enter-one o wp wq left right (x .rows) l)
-      ∙ ap (λ (k : ℕ). Both (paired wp wq) ∷ (flat L ++ flat (place (record { at = k; fields = less (x .mask) wp }) right (gathered (map (without wp) (x .rows)))))) e
+      ∙ ap (λ (k : ℕ). Both (paired wp wq) ∷ (flat L
+      ++ flat (place (record { at = k; fields = less (x .mask) wp }) right (gathered (map (without wp) (x .rows)))))) e
 
   pub side-fits : length (here w i .rows) ≡ 1 → live + 2 ≤ 160
   side-fits l =
@@ -144,7 +154,8 @@ module _ (s w : List ℕ) (live i : ℕ) (h : Entering s w live i 7) where
 
 -- ---- the positions that the two ways make
 
-module _ (s w v₁ v₂ v₃ v₄ v₅ v₆ : List ℕ) (live i pl q mask xp xq : ℕ) (S a b : PacketSet) (h : i < live) (l : live + 2 ≤ 160) (wf : Wf (order w)) where
+module _ (s w v₁ v₂ v₃ v₄ v₅ v₆ : List ℕ) (live i pl q mask xp xq : ℕ) (S a b : PacketSet) (h : i < live) (l : live + 2 ≤ 160)
+    (wf : Wf (order w)) where
   pub sides-opened : pl ≡ here w i .place → mask ≡ here w i .mask → q ≡ after s mostDepth (pl + 3)
       → Is S (here w i .mask) (here w i .rows) → xq ≡ getD s (pl + 2) 0 → xp ≡ getD s (pl + 1) 0
       → Is a (less (S .mask) xq) (gathered (map (without xq) (rows S))) → Is b (less (S .mask) xp) (gathered (map (without xp) (rows S)))
@@ -154,9 +165,11 @@ module _ (s w v₁ v₂ v₃ v₄ v₅ v₆ : List ℕ) (live i pl q mask xp xq 
       → Holds v₅ v₆ (set (all v₅) (i + 2) (marked (here v₅ (i + 2)) q 0 (b .mask)))
       → Becomes w v₆ live (live + 2) i 1
       (marked (here w live) (here w i .place) 6 (here w i .mask)
-      ∷ marked (given (here w (live + 1)) (gathered (map (without (getD s (here w i .place + 2) 0)) (here w i .rows)))) (here w i .place + 3) 0
+      ∷ marked (given (here w (live + 1)) (gathered (map (without (getD s (here w i .place + 2) 0)) (here w i .rows))))
+      (here w i .place + 3) 0
       (less (here w i .mask) (getD s (here w i .place + 2) 0))
-      ∷ marked (given (here w i) (gathered (map (without (getD s (here w i .place + 1) 0)) (here w i .rows)))) (after s mostDepth (here w i .place + 3)) 0
+      ∷ marked (given (here w i) (gathered (map (without (getD s (here w i .place + 1) 0)) (here w i .rows))))
+      (after s mostDepth (here w i .place + 3)) 0
       (less (here w i .mask) (getD s (here w i .place + 1) 0)) ∷ [])
   sides-opened ep em eq iS eq′ ep′ ia ib n₁ n₂ n₃ n₄ n₅ n₆ =
       let d : Pos = here w i in
@@ -187,11 +200,13 @@ module _ (w v₁ v₂ v₃ v₄ v₅ v₆ v₇ : List ℕ) (live i pl mask : ℕ
 
     pub parts-opened : pl ≡ here w i .place → mask ≡ here w i .mask
         → Holds v₃ v₄ (set (all v₃) (i + 1) (given (here v₃ (i + 1)) (take 1 (here v₃ (i + 1) .rows))))
-        → Holds v₄ v₅ (set (all v₄) i (marked (here v₄ i) pl 5 mask)) → Holds v₅ v₆ (set (all v₅) (i + 1) (marked (here v₅ (i + 1)) pl 0 mask))
+        → Holds v₄ v₅ (set (all v₄) i (marked (here v₄ i) pl 5 mask))
+        → Holds v₅ v₆ (set (all v₅) (i + 1) (marked (here v₅ (i + 1)) pl 0 mask))
         → Holds v₆ v₇ (set (all v₆) (i + 2) (marked (here v₆ (i + 2)) pl 0 mask)) → Parts w v₇ live i
     parts-opened ep em n₄ n₅ n₆ n₇ =
         let d : Pos = here w i in
-        let m₄ : Holds v₃ v₄ (set (all v₃) (i + 1) (given (here v₃ (i + 1)) (take 1 (d .rows)))) = rw (ap (λ (y : Pos). take 1 (y .rows)) still-there) at n₄ in
+        let m₄ : Holds v₃ v₄ (set (all v₃) (i + 1) (given (here v₃ (i + 1)) (take 1 (d .rows)))) =
+        rw (ap (λ (y : Pos). take 1 (y .rows)) still-there) at n₄ in
         let b₄ = then-given rest-there v₄ 1 (i + 1) d (take 1 (d .rows)) refl (omega arith) m₄ in
         let b₅ = then-marked b₄ v₅ 0 i d pl 5 mask (omega arith) (omega arith) n₅ in
         let b₆ = then-marked b₅ v₆ 1 (i + 1) d pl 0 mask refl (omega arith) n₆ in

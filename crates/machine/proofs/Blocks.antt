@@ -6,7 +6,9 @@ use native.Mathlib.Nat.{zero-add, add-zero, suc-add, add-suc, add-assoc, suc-mul
 use native.Mathlib.Numerals.{add-one}
 use native.Mathlib.Omega.{arith}
 use lib.ListN.{length, take, drop, getD, set, length-append, length-take, length-drop, take-append-drop, List·getD-append}
-use lib.Seq.{drop-paste, paste-zero, paste-suc, length-paste, getD-append-add, length-paste-head, take-append-le, drop-append-le, drop-drop, getD-take, getD-drop, drop-set-lt, take-set-le, take-set-lt, drop-set-add, length-take-le, take-at, take-take, take-add, paste, drop-at, set-at, getD-at, take-suc, drop-cons, append-snoc}
+use lib.Seq.{drop-paste, paste-zero, paste-suc, length-paste, getD-append-add, length-paste-head, take-append-le, drop-append-le, drop-drop}
+use lib.Seq.{getD-take, getD-drop, drop-set-lt, take-set-le, take-set-lt, drop-set-add, length-take-le, take-at, take-take, take-add, paste}
+use lib.Seq.{drop-at, set-at, getD-at, take-suc, drop-cons, append-snoc}
 use Rattle.machine.specs.Area.{blocks}
 
 module _ {A : Type 0} where
@@ -24,10 +26,13 @@ module _ {A : Type 0} where
 
   pub take-blocks : (S i n : ℕ) (w : List A) → take i (blocks S (i + n) w) ≡ blocks S i w
   take-blocks S zero n w = refl
-  take-blocks S (suc i) n w = ap (λ (k : ℕ). take (suc i) (blocks S k w)) (suc-add i n) ∙ ap (λ (l : List (List A)). take S w ∷ l) (take-blocks S i n (drop S w))
+  take-blocks S (suc i) n w = ap (λ (k : ℕ). take (suc i) (blocks S k w)) (suc-add i n)
+      ∙ ap (λ (l : List (List A)). take S w ∷ l) (take-blocks S i n (drop S w))
 
   pub blocks-add : (S n m : ℕ) (w : List A) → blocks S (n + m) w ≡ blocks S n w ++ blocks S m (drop (n * S) w)
-  blocks-add S n m w = sym (take-append-drop n (blocks S (n + m) w)) ∙ ap (λ (l : List (List A)). l ++ drop n (blocks S (n + m) w)) (take-blocks S n m w) ∙ ap (λ (l : List (List A)). blocks S n w ++ l) (drop-blocks S n m w)
+  blocks-add S n m w = sym (take-append-drop n (blocks S (n + m) w))
+      ∙ ap (λ (l : List (List A)). l ++ drop n (blocks S (n + m) w)) (take-blocks S n m w)
+      ∙ ap (λ (l : List (List A)). blocks S n w ++ l) (drop-blocks S n m w)
 
   pub blocks-front : (S n : ℕ) (w v : List A) → n * S ≤ length w → blocks S n (w ++ v) ≡ blocks S n w
   blocks-front S zero w v h = refl
@@ -49,7 +54,8 @@ module _ {A : Type 0} where
   getD-blocks S (suc i) (suc n) w h = getD-blocks S i n (drop S w) (omega arith) ∙ ap (take S) (drop-suc-mul S i w)
 
   -- a write in one block
-  pub set-blocks : (S i n j : ℕ) (w : List A) (v : A) → i < n → j < S → blocks S n (set w (i * S + j) v) ≡ set (blocks S n w) i (set (getD (blocks S n w) i []) j v)
+  pub set-blocks : (S i n j : ℕ) (w : List A) (v : A) → i < n → j < S
+      → blocks S n (set w (i * S + j) v) ≡ set (blocks S n w) i (set (getD (blocks S n w) i []) j v)
   set-blocks S i zero j w v h l = absurd (omega arith)
   set-blocks S zero (suc n) j w v h l =
       ap (λ (k : ℕ). blocks S (suc n) (set w k v)) (ap (λ (k : ℕ). k + j) (zero-mul S) ∙ zero-add j)
@@ -63,7 +69,8 @@ module _ {A : Type 0} where
       ∙ ap (λ (r : List (List A)). take S w ∷ r) (set-blocks S i n j (drop S w) v (omega arith) l)
 
   -- a words' move of whole blocks
-  pub blocks-paste : (S a m : ℕ) (w s : List A) → a * S ≤ length w → m * S ≤ length s → blocks S (a + m) (paste w (a * S) s (m * S)) ≡ blocks S a w ++ blocks S m s
+  pub blocks-paste : (S a m : ℕ) (w s : List A) → a * S ≤ length w → m * S ≤ length s
+      → blocks S (a + m) (paste w (a * S) s (m * S)) ≡ blocks S a w ++ blocks S m s
   blocks-paste S a m w s h l =
       let r : List A = drop (a * S + m * S) w in
       let p : List A = take (a * S) w in
@@ -72,19 +79,22 @@ module _ {A : Type 0} where
       let lq : length q ≡ m * S = length-take-le (m * S) s l in
       ap (blocks S (a + m)) (append-assoc p q r)
       ∙ blocks-add S a m (p ++ (q ++ r))
-      ∙ ap (λ (b : List (List A)). b ++ blocks S m (drop (a * S) (p ++ (q ++ r)))) (blocks-front S a p (q ++ r) (omega arith) ∙ blocks-take S a (a * S) w (omega arith) h)
+      ∙ ap (λ (b : List (List A)). b ++ blocks S m (drop (a * S) (p ++ (q ++ r))))
+      (blocks-front S a p (q ++ r) (omega arith) ∙ blocks-take S a (a * S) w (omega arith) h)
       ∙ ap (λ (b : List A). blocks S a w ++ blocks S m b) (drop-at p (q ++ r) (a * S) lp)
       ∙ ap (λ (b : List (List A)). blocks S a w ++ b) (blocks-front S m q r (omega arith) ∙ blocks-take S m (m * S) s (omega arith) l)
 
   -- what a paste leaves before and after it
-  pub getD-paste-before : (w : List A) (at : ℕ) (s : List A) (n i : ℕ) (d : A) → at ≤ length w → i < at → getD (paste w at s n) i d ≡ getD w i d
+  pub getD-paste-before : (w : List A) (at : ℕ) (s : List A) (n i : ℕ) (d : A) → at ≤ length w → i < at
+      → getD (paste w at s n) i d ≡ getD w i d
   getD-paste-before w at s n i d h l =
       let lt : length (take at w) ≡ at = length-take-le at w h in
       ap (λ (x : List A). getD x i d) (append-assoc (take at w) (take n s) (drop (at + n) w))
       ∙ List·getD-append (take at w) (take n s ++ drop (at + n) w) d i (omega arith)
       ∙ getD-take at w i d l
 
-  pub getD-paste-after : (w : List A) (at : ℕ) (s : List A) (n i : ℕ) (d : A) → at ≤ length w → n ≤ length s → getD (paste w at s n) (at + n + i) d ≡ getD w (at + n + i) d
+  pub getD-paste-after : (w : List A) (at : ℕ) (s : List A) (n i : ℕ) (d : A) → at ≤ length w → n ≤ length s
+      → getD (paste w at s n) (at + n + i) d ≡ getD w (at + n + i) d
   getD-paste-after w at s n i d h l =
       let e : length (take at w ++ take n s) ≡ at + n = length-paste-head w at s n h l in
       ap (λ (k : ℕ). getD (paste w at s n) (k + i) d) (sym e)
@@ -92,7 +102,8 @@ module _ {A : Type 0} where
       ∙ getD-drop (at + n) w i d
 
   -- a turn of the loop that moves words up, from the last one down
-  pub paste-front : (w : List A) (t : ℕ) (s : List A) (m : ℕ) (x : A) → t < length w → set (paste w (suc t) s m) t x ≡ paste w t (x ∷ s) (suc m)
+  pub paste-front : (w : List A) (t : ℕ) (s : List A) (m : ℕ) (x : A) → t < length w
+      → set (paste w (suc t) s m) t x ≡ paste w t (x ∷ s) (suc m)
   paste-front w t s m x h =
       let p : List A = take t w in
       let q : List A = take m s in
@@ -106,7 +117,8 @@ module _ {A : Type 0} where
 
   pub paste-back : (w : List A) (from to m : ℕ) (d : A) → from < length w → to < length w
       → set (paste w (suc to) (drop (suc from) w) m) to (getD w from d) ≡ paste w to (drop from w) (suc m)
-  paste-back w from to m d h l = paste-front w to (drop (suc from) w) m (getD w from d) l ∙ ap (λ (s : List A). paste w to s (suc m)) (sym (drop-cons w from d h))
+  paste-back w from to m d h l = paste-front w to (drop (suc from) w) m (getD w from d) l
+      ∙ ap (λ (s : List A). paste w to s (suc m)) (sym (drop-cons w from d h))
 
   -- a paste past the first S words
   pub paste-shift : (w : List A) (S t : ℕ) (s : List A) (n : ℕ) → paste w (S + t) s n ≡ take S w ++ paste (drop S w) t s n
@@ -117,7 +129,8 @@ module _ {A : Type 0} where
       ∙ simp append-assoc
 
   -- one block replaced
-  pub blocks-put : (S j n : ℕ) (w s : List A) → j < n → n * S ≤ length w → S ≤ length s → blocks S n (paste w (j * S) s S) ≡ set (blocks S n w) j (take S s)
+  pub blocks-put : (S j n : ℕ) (w s : List A) → j < n → n * S ≤ length w → S ≤ length s
+      → blocks S n (paste w (j * S) s S) ≡ set (blocks S n w) j (take S s)
   blocks-put S j zero w s h l k = absurd (omega arith)
   blocks-put S zero (suc n) w s h l k =
       let ls : length (take S s) ≡ S = length-take-le S s k in
@@ -139,28 +152,34 @@ module _ {A : Type 0} where
 
   pub set-append-add : (p l : List A) (n : ℕ) (a : A) → set (p ++ l) (length p + n) a ≡ p ++ set l n a
   set-append-add [] l n a = ap (λ (k : ℕ). set l k a) (zero-add n)
-  set-append-add (x ∷ p) l n a = ap (λ (k : ℕ). set (x ∷ (p ++ l)) k a) (suc-add (length p) n) ∙ ap (λ (r : List A). x ∷ r) (set-append-add p l n a)
+  set-append-add (x ∷ p) l n a = ap (λ (k : ℕ). set (x ∷ (p ++ l)) k a) (suc-add (length p) n)
+      ∙ ap (λ (r : List A). x ∷ r) (set-append-add p l n a)
 
   -- The loops that move words: where each stands, its first state, a turn and its last state
   abbrev pub moved : List A → ℕ → ℕ → ℕ → List A
   moved w from to n = paste w to (drop from w) n
 
-  pub moved-eq : (v w : List A) (from from′ to to′ n n′ : ℕ) → v ≡ moved w from to n → from ≡ from′ → to ≡ to′ → n ≡ n′ → v ≡ moved w from′ to′ n′
+  pub moved-eq : (v w : List A) (from from′ to to′ n n′ : ℕ) → v ≡ moved w from to n → from ≡ from′ → to ≡ to′ → n ≡ n′
+      → v ≡ moved w from′ to′ n′
   moved-eq v w from from′ to to′ n n′ e a b c = cc
 
   pub moved-none : (w : List A) (from to n : ℕ) → n ≡ 0 → w ≡ moved w from to n
   moved-none w from to n e = paste-zero w to (drop from w) ∙ ap (moved w from to) (sym e)
 
   pub length-moved : (w : List A) (from to n : ℕ) → from + n ≤ length w → to + n ≤ length w → length (moved w from to n) ≡ length w
-  length-moved w from to n h l = let e : length (drop from w) ≡ length w - from = length-drop from w in length-paste w to (drop from w) n l (omega arith)
+  length-moved w from to n h l = let e : length (drop from w)
+      ≡ length w - from = length-drop from w in length-paste w to (drop from w) n l (omega arith)
 
   -- from the last word down: the words from j on have been moved, and now the one before them
-  pub up-turn : (w v : List A) (from to n j j′ : ℕ) (d : A) → from ≤ to → to + n ≤ length w → j ≤ n → j ≡ suc j′ → v ≡ moved w (from + j) (to + j) (n - j)
+  pub up-turn : (w v : List A) (from to n j j′ : ℕ) (d : A) → from ≤ to → to + n ≤ length w → j ≤ n → j ≡ suc j′
+      → v ≡ moved w (from + j) (to + j) (n - j)
       → set v (to + j′) (getD v (from + j′) d) ≡ moved w (from + j′) (to + j′) (n - j′)
   up-turn w v from to n j j′ d h l k e inv =
-      let v′ : v ≡ moved w (suc (from + j′)) (suc (to + j′)) (n - suc j′) = moved-eq v w (from + j) (suc (from + j′)) (to + j) (suc (to + j′)) (n - j) (n - suc j′) inv (omega arith) (omega arith) (omega arith) in
+      let v′ : v ≡ moved w (suc (from + j′)) (suc (to + j′)) (n - suc j′) = moved-eq v w (from + j) (suc (from + j′)) (to + j)
+      (suc (to + j′)) (n - j) (n - suc j′) inv (omega arith) (omega arith) (omega arith) in
       let r : getD v (from + j′) d ≡ getD w (from + j′) d =
-      ap (λ (x : List A). getD x (from + j′) d) v′ ∙ getD-paste-before w (suc (to + j′)) (drop (suc (from + j′)) w) (n - suc j′) (from + j′) d (omega arith) (omega arith) in
+      ap (λ (x : List A). getD x (from + j′) d) v′
+      ∙ getD-paste-before w (suc (to + j′)) (drop (suc (from + j′)) w) (n - suc j′) (from + j′) d (omega arith) (omega arith) in
       let m : suc (n - suc j′) ≡ n - j′ = omega arith in
       ap (λ (x : List A). set x (to + j′) (getD v (from + j′) d)) v′
       ∙ ap (set (moved w (suc (from + j′)) (suc (to + j′)) (n - suc j′)) (to + j′)) r
@@ -176,7 +195,8 @@ module _ {A : Type 0} where
       let e : from + j ≡ to + j + (from - to) = omega arith in
       let r : getD v (from + j) d ≡ getD s j d =
       ap (λ (x : List A). getD x (from + j) d) inv ∙ ap (λ (i : ℕ). getD (moved w from to j) i d) e
-      ∙ getD-paste-after w to s j (from - to) d (omega arith) (omega arith) ∙ ap (λ (i : ℕ). getD w i d) (sym e) ∙ sym (getD-drop from w j d) in
+      ∙ getD-paste-after w to s j (from - to) d (omega arith) (omega arith) ∙ ap (λ (i : ℕ). getD w i d) (sym e)
+      ∙ sym (getD-drop from w j d) in
       ap (λ (x : List A). set x (to + j) (getD v (from + j) d)) inv
       ∙ ap (set (moved w from to j) (to + j)) r
       ∙ paste-suc w to s j d (omega arith) (omega arith)

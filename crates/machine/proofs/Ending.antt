@@ -45,7 +45,8 @@ values-few k [] = omega arith
 values-few k (x ∷ F) =
     omega (arith, length-append (take k x) (valuesOf k F), length-take k x, values-few k F, suc-mul (length F) k)
 
-module _ (s w v : List ℕ) (live n : ℕ) (t : Tree) (bs : List ℕ) (p : Played s w v live n t bs) (pl : Playable s t) (r : ℕ) (er : r ≡ count (marks v live)) where
+module _ (s w v : List ℕ) (live n : ℕ) (t : Tree) (bs : List ℕ) (p : Played s w v live n t bs) (pl : Playable s t) (r : ℕ)
+    (er : r ≡ count (marks v live)) where
   abbrev T : Tree
   T = run t bs
 
@@ -117,4 +118,5 @@ module _ (s w v : List ℕ) (live n : ℕ) (t : Tree) (bs : List ℕ) (p : Playe
 pub cleared : (w v u : List ℕ) → drop 21760 v ≡ drop 21760 w → u ≡ replicate 21760 0 ++ drop 21760 v → u ≡ overwritten (replicate 21760 0) w
 unfolding overwritten
 cleared w v u k e =
-    e ∙ ap (λ (x : List ℕ). replicate 21760 0 ++ x) k ∙ ap (λ (n : ℕ). replicate 21760 0 ++ drop n w) (sym (length-replicate {A = ℕ} 21760 0))
+    e ∙ ap (λ (x : List ℕ). replicate 21760 0 ++ x) k
+    ∙ ap (λ (n : ℕ). replicate 21760 0 ++ drop n w) (sym (length-replicate {A = ℕ} 21760 0))

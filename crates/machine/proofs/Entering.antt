@@ -13,8 +13,10 @@ use Rattle.rules.specs.States.{Spot, on, moved, Tree, done, both, negated, ente
 use Rattle.packets.specs.declared.PacketSet.{PacketSet}
 use Rattle.packets.specs.Rows.{rows, Is}
 use Rattle.machine.specs.Area.{turned, Pos, here, all, order, Wf, Holds, marked, given, finished, Becomes}
-use Rattle.machine.specs.Shown.{Live, Placed, Done, Waiting, Negated, Both, flat, partOf, spotOf, joinOf, meantBy, meant, Turns, Stands, placing, entering, Standing, StandingTwo, Entering}
-use Rattle.machine.proofs.Becoming.{one-begins, two-begin, here-new, before-as, then-set, then-marked, then-given, then-opened-one, then-opened-two}
+use Rattle.machine.specs.Shown.{Live, Placed, Done, Waiting, Negated, Both, flat, partOf, spotOf, joinOf, meantBy, meant, Turns}
+use Rattle.machine.specs.Shown.{Stands, placing, entering, Standing, StandingTwo, Entering}
+use Rattle.machine.proofs.Becoming.{one-begins, two-begin, here-new, before-as, then-set, then-marked, then-given, then-opened-one}
+use Rattle.machine.proofs.Becoming.{then-opened-two}
 use Rattle.machine.proofs.Turning.{turns-by, turns-as, turns-in, turns-size, flat-some}
 use Rattle.machine.proofs.Below.{only-stands, only-turns, one-stands, one-turns, two-stand, two-turn}
 use Rattle.machine.proofs.Standing.{Two, inside, part-drop, part-test, part-set, not-below, sum-below, table-below}
@@ -54,7 +56,8 @@ leaf-entered s w v live i code pl a r h l u ep ia ir n =
     let b = one-begins w live i (h .standing .few) (h .standing .sound) (h .standing .there) in
     let e : rows r ≡ out (partOf s (here w i .place)) (here w i .rows) = rw (ep, ia .same) at (ir .same) in
     turns-by (then-set b v 0 i (finished (here w i) (rows r)) (omega arith) (omega arith) n)
-    (ap (λ (S : Packets). Done S ∷ []) e ∙ sym (ap flat (enter-leaf s (here w i .place) code (spotOf (here w i)) (here w i .rows) (h .reads) l u)))
+    (ap (λ (S : Packets). Done S ∷ []) e ∙ sym
+    (ap flat (enter-leaf s (here w i .place) code (spotOf (here w i)) (here w i .rows) (h .reads) l u)))
 
 -- ---- two positions settled
 
@@ -106,18 +109,23 @@ module _ (s w : List ℕ) (live i : ℕ) (h : StandingTwo s w live i) where
 pub opened-one-as : (w v : List ℕ) (live i : ℕ) → i < live → live + 1 ≤ 160 → Wf (order w) → Holds w v (turned i (live - i) 1 (all w))
     → here v (i + 1) ≡ here w i
 opened-one-as w v live i h l wf n =
-    here-new (then-opened-one (one-begins w live i (omega arith) wf h) v 0 i (omega arith) (omega arith) l n) 1 (i + 1) (here w i) refl (omega arith)
+    here-new (then-opened-one (one-begins w live i (omega arith) wf h) v 0 i (omega arith) (omega arith) l n) 1 (i + 1) (here w i) refl
+    (omega arith)
 
 pub opened-two-as : (w v : List ℕ) (live i : ℕ) → i < live → live + 2 ≤ 160 → Wf (order w) → Holds w v (turned i (live - i) 2 (all w))
     → here v (i + 2) ≡ here w i
 opened-two-as w v live i h l wf n =
-    here-new (then-opened-two (one-begins w live i (omega arith) wf h) v 0 i (omega arith) (omega arith) l n) 2 (i + 2) (here w i) refl (omega arith)
+    here-new (then-opened-two (one-begins w live i (omega arith) wf h) v 0 i (omega arith) (omega arith) l n) 2 (i + 2) (here w i) refl
+    (omega arith)
 
-pub not-opened : (w v₁ v₂ v₃ v₄ : List ℕ) (live i pl mask : ℕ) → i < live → live + 1 ≤ 160 → Wf (order w) → pl ≡ here w i .place → mask ≡ here w i .mask
+pub not-opened : (w v₁ v₂ v₃ v₄ : List ℕ) (live i pl mask : ℕ) → i < live → live + 1 ≤ 160 → Wf (order w) → pl ≡ here w i .place
+    → mask ≡ here w i .mask
     → Holds w v₁ (turned i (live - i) 1 (all w)) → Holds v₁ v₂ (set (all v₁) i (given (here v₁ i) (drop 0 (here v₁ (i + 1) .rows))))
-    → Holds v₂ v₃ (set (all v₂) i (marked (here v₂ i) pl 3 mask)) → Holds v₃ v₄ (set (all v₃) (i + 1) (marked (here v₃ (i + 1)) (pl + 1) 0 mask))
+    → Holds v₂ v₃ (set (all v₂) i (marked (here v₂ i) pl 3 mask))
+    → Holds v₃ v₄ (set (all v₃) (i + 1) (marked (here v₃ (i + 1)) (pl + 1) 0 mask))
     → Becomes w v₄ live (live + 1) i 1
-    (marked (given (here w live) (here w i .rows)) (here w i .place) 3 (here w i .mask) ∷ marked (here w i) (here w i .place + 1) 0 (here w i .mask) ∷ [])
+    (marked (given (here w live) (here w i .rows)) (here w i .place) 3 (here w i .mask)
+    ∷ marked (here w i) (here w i .place + 1) 0 (here w i .mask) ∷ [])
 not-opened w v₁ v₂ v₃ v₄ live i pl mask h l wf ep em n₁ n₂ n₃ n₄ =
     let d : Pos = here w i in
     let b₁ = then-opened-one (one-begins w live i (omega arith) wf h) v₁ 0 i (omega arith) (omega arith) l n₁ in
@@ -161,11 +169,14 @@ module _ (s w : List ℕ) (live i : ℕ) (h : Entering s w live i 4) where
 
 module _ (s w v₁ v₂ v₃ v₄ v₅ : List ℕ) (live i pl at q mask : ℕ) (h : i < live) (l : live + 2 ≤ 160) (wf : Wf (order w)) where
   pub sum-opened : pl ≡ here w i .place → at ≡ here w i .place + 1 → q ≡ after s mostDepth at → mask ≡ here w i .mask
-      → Holds w v₁ (turned i (live - i) 2 (all w)) → Holds v₁ v₂ (set (all v₁) (i + 1) (given (here v₁ (i + 1)) (drop 0 (here v₁ (i + 2) .rows))))
-      → Holds v₂ v₃ (set (all v₂) i (marked (here v₂ i) pl 4 mask)) → Holds v₃ v₄ (set (all v₃) (i + 1) (marked (here v₃ (i + 1)) at 0 mask))
+      → Holds w v₁ (turned i (live - i) 2 (all w))
+      → Holds v₁ v₂ (set (all v₁) (i + 1) (given (here v₁ (i + 1)) (drop 0 (here v₁ (i + 2) .rows))))
+      → Holds v₂ v₃ (set (all v₂) i (marked (here v₂ i) pl 4 mask))
+      → Holds v₃ v₄ (set (all v₃) (i + 1) (marked (here v₃ (i + 1)) at 0 mask))
       → Holds v₄ v₅ (set (all v₄) (i + 2) (marked (here v₄ (i + 2)) q 0 mask))
       → Becomes w v₅ live (live + 2) i 1
-      (marked (here w live) (here w i .place) 4 (here w i .mask) ∷ marked (given (here w (live + 1)) (here w i .rows)) (here w i .place + 1) 0 (here w i .mask)
+      (marked (here w live) (here w i .place) 4 (here w i .mask)
+      ∷ marked (given (here w (live + 1)) (here w i .rows)) (here w i .place + 1) 0 (here w i .mask)
       ∷ marked (here w i) (after s mostDepth (here w i .place + 1)) 0 (here w i .mask) ∷ [])
   sum-opened ep ea eq em n₁ n₂ n₃ n₄ n₅ =
       let d : Pos = here w i in
@@ -198,7 +209,8 @@ module _ (s w : List ℕ) (live i : ℕ) (h : Entering s w live i 5) where
       let q : Part = partOf s (after s mostDepth at) in
       let e : x .place + (1 + size (partOf s at)) ≡ after s mostDepth at = omega (arith, sum-two .ends) in
       ap (λ (p : Part). flat (enter (spotOf x) p (x .rows))) (sum-below (h .standing .stands) (h .reads) .0)
-      ∙ ap (λ (k : ℕ). Both entered ∷ (flat (place (on 1 (spotOf x)) (partOf s at) (x .rows)) ++ flat (place (record { at = k; fields = x .mask }) q (x .rows)))) e
+      ∙ ap (λ (k : ℕ). Both entered ∷ (flat (place (on 1 (spotOf x)) (partOf s at) (x .rows))
+      ++ flat (place (record { at = k; fields = x .mask }) q (x .rows)))) e
 
   pub sum-fits : live + 2 ≤ 160
   sum-fits =
@@ -250,7 +262,8 @@ module _ (s w : List ℕ) (live i x : ℕ) (h : Entering s w live i 8) (ex : x �
       (n : Holds w v (set (all w) i (marked (here w i) start 0 mask))) where
     table-there : Becomes w v live live i 1 (tableY ∷ [])
     table-there =
-        rw (es, em) at (then-marked (one-begins w live i (h .standing .few) (h .standing .sound) (h .standing .there)) v 0 i (here w i) start 0 mask
+        rw (es, em) at (then-marked (one-begins w live i (h .standing .few) (h .standing .sound) (h .standing .there)) v 0 i
+        (here w i) start 0 mask
         (omega arith) (omega arith) n)
 
     pub table-next : Standing s v live i (placing s (here v i))
@@ -259,5 +272,6 @@ module _ (s w : List ℕ) (live i x : ℕ) (h : Entering s w live i 8) (ex : x �
         only-stands s table-there (h .standing .area) (h .standing .short) (omega (arith, h .standing .room, ap length table-flat))
         (omega (arith, h .standing .there)) (h .standing .there) refl body-stands
 
-    pub table-entered : (u : List ℕ) (r : ℕ) → Turns s v u live r i 1 (flat (placing s (here v i))) → Turns s w u live r i 1 (flat (entering s (here w i)))
+    pub table-entered : (u : List ℕ) (r : ℕ) → Turns s v u live r i 1 (flat (placing s (here v i)))
+        → Turns s w u live r i 1 (flat (entering s (here w i)))
     table-entered u r t = turns-as (only-turns s table-there u r t) (sym table-flat)

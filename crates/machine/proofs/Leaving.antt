@@ -30,7 +30,8 @@ module _ (s w v₁ v₂ : List ℕ) (live i pl mask : ℕ) (h : Leaving w live i
       let b₁ = then-closed (two-begin w live i (h .few) (h .sound) (h .there)) v₁ 0 1 i (omega arith) (omega arith) n₁ in
       rw (ep, em) at (then-marked b₁ v₂ 0 i d pl 0 mask (omega arith) (omega arith) n₂)
 
-  pub taken-stands : Stands s (here w i .place) → length s ≤ 4096 → live + length (flat (placing s (given (here w i) (here w (i + 1) .rows)))) ≤ 162
+  pub taken-stands : Stands s (here w i .place) → length s ≤ 4096
+      → live + length (flat (placing s (given (here w i) (here w (i + 1) .rows)))) ≤ 162
       → Standing s v₂ (live - 1) i (placing s (here v₂ i))
   unfolding marked given
   taken-stands st short room =
@@ -49,7 +50,8 @@ pub not-left : (w v₁ v₂ : List ℕ) (live i : ℕ) (k a r : PacketSet) → L
     → Becomes w v₂ live (live - 1) i 2 (finished (here w i) (keep (lacks (here w (i + 1) .rows)) (here w i .rows)) ∷ [])
 not-left w v₁ v₂ live i k a r h ik ia ir n₁ n₂ =
     let e : rows r ≡ keep (lacks (here w (i + 1) .rows)) (here w i .rows) = rw (ia .same, ik .same) at (ir .same) in
-    let b₁ = then-set (two-begin w live i (h .few) (h .sound) (h .there)) v₁ 0 i (finished (here w i) (rows r)) (omega arith) (omega arith) n₁ in
+    let b₁ = then-set (two-begin w live i (h .few) (h .sound) (h .there)) v₁ 0 i (finished (here w i) (rows r)) (omega arith)
+    (omega arith) n₁ in
     rw e at (then-closed b₁ v₂ 1 1 (i + 1) refl (omega arith) n₂)
 
 -- ---- two finished positions joined
@@ -69,7 +71,8 @@ join-high s zero at S T h = absurd (omega arith)
 join-high s (suc zero) at S T h = absurd (omega arith)
 join-high s (suc (suc k)) at S T h = refl
 
-pub joins-low : (s : List ℕ) (phase at m : ℕ) (S T : Packets) (u : Made) → 4 ≤ phase → phase < 6 → length (join (joinOf s (phase - 4) at) S T) ≤ 16
+pub joins-low : (s : List ℕ) (phase at m : ℕ) (S T : Packets) (u : Made) → 4 ≤ phase → phase < 6
+    → length (join (joinOf s (phase - 4) at) S T) ≤ 16
     → Gives u m (union S T) → Is (u .set) m (join (joinOf s (phase - 4) at) S T)
 joins-low s phase at m S T u l h few g =
     let e = join-low s (phase - 4) at S T (omega arith) in rw e (gives-set g (rw e at few))
@@ -95,5 +98,6 @@ module _ (s w : List ℕ) (live i pl phase : ℕ) (a b : PacketSet)
       → Becomes w v₂ live (live - 2) i 3
       (finished (here w i) (join (joinOf s (here w i .phase - 4) (here w i .place)) (here w (i + 1) .rows) (here w (i + 2) .rows)) ∷ [])
   both-left v₁ v₂ u eu n₁ n₂ =
-      let b₁ = then-set (three-begin w live i (h .few) (h .sound) (h .there)) v₁ 0 i (finished (here w i) (rows u)) (omega arith) (omega arith) n₁ in
+      let b₁ = then-set (three-begin w live i (h .few) (h .sound) (h .there)) v₁ 0 i (finished (here w i) (rows u)) (omega arith)
+      (omega arith) n₁ in
       rw (eu ∙ both-join) at (then-closed b₁ v₂ 1 2 (i + 1) refl (omega arith) n₂)

@@ -105,22 +105,27 @@ length-next (placed o p s) = refl
 length-next (done s) = refl
 length-next (waiting t o q) = go t (ends t) (length-next t)
   where
-    go : (t : Tree) → Ended t → length (next t) ≡ readyT (conv t) → length (map (λ s. place o q s) (finish t) ++ map (λ t′. waiting t′ o q) (next t)) ≡ b2n (finT (conv t)) + readyT (conv t)
+    go : (t : Tree) → Ended t → length (next t) ≡ readyT (conv t)
+        → length (map (λ s. place o q s) (finish t) ++ map (λ t′. waiting t′ o q) (next t)) ≡ b2n (finT (conv t)) + readyT (conv t)
     go t (ended s) ih = refl
     go t (going e f) ih = rw (e, f) (length-map (next t) (λ t′. waiting t′ o q) ∙ omega arith)
 length-next (negated k t) = go t (ends t) (length-next t)
   where
-    go : (t : Tree) → Ended t → length (next t) ≡ readyT (conv t) → length (map (λ a. done (keep (lacks a) k)) (finish t) ++ map (λ t′. negated k t′) (next t)) ≡ b2n (finT (conv t)) + readyT (conv t)
+    go : (t : Tree) → Ended t → length (next t) ≡ readyT (conv t)
+        → length (map (λ a. done (keep (lacks a) k)) (finish t) ++ map (λ t′. negated k t′) (next t))
+        ≡ b2n (finT (conv t)) + readyT (conv t)
     go t (ended s) ih = refl
     go t (going e f) ih = rw (e, f) (length-map (next t) (λ t′. negated k t′) ∙ omega arith)
 length-next (both j t u) = go t u (ends t) (ends u) (length-next t) (length-next u)
   where
     go : (t u : Tree) → Ended t → Ended u → length (next t) ≡ readyT (conv t) → length (next u) ≡ readyT (conv u)
-        → length (leave j (finish t) (finish u) ++ (map (λ t′. both j t′ u) (next t) ++ map (λ u′. both j t u′) (next u))) ≡ b2n (finT (conv t) && finT (conv u)) + (readyT (conv t) + readyT (conv u))
+        → length (leave j (finish t) (finish u) ++ (map (λ t′. both j t′ u) (next t) ++ map (λ u′. both j t u′) (next u)))
+        ≡ b2n (finT (conv t) && finT (conv u)) + (readyT (conv t) + readyT (conv u))
     go t u (ended s) (ended r) it iu = refl
     go t u (ended s) (going e f) it iu = rw (e, f) (length-map (next u) (λ u′. both j (done s) u′) ∙ omega arith)
     go t u (going e f) y it iu =
-        rw (e, f) (length-append (map (λ t′. both j t′ u) (next t)) (map (λ u′. both j t u′) (next u)) ∙ omega (arith, length-map (next t) (λ t′. both j t′ u), length-map (next u) (λ u′. both j t u′)))
+        rw (e, f) (length-append (map (λ t′. both j t′ u) (next t)) (map (λ u′. both j t u′) (next u))
+        ∙ omega (arith, length-map (next t) (λ t′. both j t′ u), length-map (next u) (λ u′. both j t u′)))
 
 pub next-is : (t : Tree) (k : ℕ) (d : Tree) → k < readyT (conv t) → conv (getD (next t) k d) ≡ updT root k (conv t)
 unfolding next finish leave
@@ -129,16 +134,20 @@ next-is (placed o p s) (suc k) d h = absurd (omega arith)
 next-is (done s) k d h = absurd (omega arith)
 next-is (waiting t o q) k d h = go t (ends t) (λ l. next-is t k d l) h
   where
-    go : (t : Tree) → Ended t → (k < readyT (conv t) → conv (getD (next t) k d) ≡ updT root k (conv t)) → k < b2n (finT (conv t)) + readyT (conv t)
-        → conv (getD (map (λ s. place o q s) (finish t) ++ map (λ t′. waiting t′ o q) (next t)) k d) ≡ cond (finT (conv t)) (root (tone (Waiting o q) (conv t))) (tone (Waiting o q) (updT root k (conv t)))
+    go : (t : Tree) → Ended t → (k < readyT (conv t) → conv (getD (next t) k d) ≡ updT root k (conv t))
+        → k < b2n (finT (conv t)) + readyT (conv t)
+        → conv (getD (map (λ s. place o q s) (finish t) ++ map (λ t′. waiting t′ o q) (next t)) k d)
+        ≡ cond (finT (conv t)) (root (tone (Waiting o q) (conv t))) (tone (Waiting o q) (updT root k (conv t)))
     go t (ended s) ih h = let z : k ≡ 0 = omega arith in rw z
     go t (going e f) ih h =
         let l : k < readyT (conv t) = omega (arith, ap b2n f) in
         rw (e, f) (ap conv (getD-map (λ t′. waiting t′ o q) (next t) k d d (omega (arith, length-next t))) ∙ ap (tone (Waiting o q)) (ih l))
 next-is (negated m t) k d h = go t (ends t) (λ l. next-is t k d l) h
   where
-    go : (t : Tree) → Ended t → (k < readyT (conv t) → conv (getD (next t) k d) ≡ updT root k (conv t)) → k < b2n (finT (conv t)) + readyT (conv t)
-        → conv (getD (map (λ a. done (keep (lacks a) m)) (finish t) ++ map (λ t′. negated m t′) (next t)) k d) ≡ cond (finT (conv t)) (root (tone (Negated m) (conv t))) (tone (Negated m) (updT root k (conv t)))
+    go : (t : Tree) → Ended t → (k < readyT (conv t) → conv (getD (next t) k d) ≡ updT root k (conv t))
+        → k < b2n (finT (conv t)) + readyT (conv t)
+        → conv (getD (map (λ a. done (keep (lacks a) m)) (finish t) ++ map (λ t′. negated m t′) (next t)) k d)
+        ≡ cond (finT (conv t)) (root (tone (Negated m) (conv t))) (tone (Negated m) (updT root k (conv t)))
     go t (ended s) ih h = let z : k ≡ 0 = omega arith in rw z
     go t (going e f) ih h =
         let l : k < readyT (conv t) = omega (arith, ap b2n f) in
@@ -150,19 +159,23 @@ next-is (both j t u) k d h = go t u (ends t) (ends u) (λ l. next-is t k d l) (�
         ≡ cond (finT (conv t) && finT (conv u)) (root (ttwo (Both j) (conv t) (conv u)))
         (cond c (ttwo (Both j) (updT root k (conv t)) (conv u)) (ttwo (Both j) (conv t) (updT root (k - readyT (conv t)) (conv u))))
 
-    go : (t u : Tree) → Ended t → Ended u → (k < readyT (conv t) → conv (getD (next t) k d) ≡ updT root k (conv t)) → ((i : ℕ) → i < readyT (conv u) → conv (getD (next u) i d) ≡ updT root i (conv u))
-        → k < b2n (finT (conv t) && finT (conv u)) + (readyT (conv t) + readyT (conv u)) → (c : Bool) → ltb k (readyT (conv t)) ≡ c → Goal t u c
+    go : (t u : Tree) → Ended t → Ended u → (k < readyT (conv t) → conv (getD (next t) k d) ≡ updT root k (conv t))
+        → ((i : ℕ) → i < readyT (conv u) → conv (getD (next u) i d) ≡ updT root i (conv u))
+        → k < b2n (finT (conv t) && finT (conv u)) + (readyT (conv t) + readyT (conv u)) → (c : Bool) → ltb k (readyT (conv t)) ≡ c
+        → Goal t u c
     go t u (ended s) (ended r) it iu h c e = let z : k ≡ 0 = omega arith in rw z
     go t u (ended s) (going e f) it iu h true g = absurd (omega (arith, ltb-true k 0 g))
     go t u (ended s) (going e f) it iu h false g =
         let l : k < readyT (conv u) = omega (arith, ap b2n f) in
         let z : k - 0 ≡ k = omega arith in
-        rw (e, f, z) (ap conv (getD-map (λ u′. both j (done s) u′) (next u) k d d (omega (arith, length-next u))) ∙ ap (ttwo (Both j) (tdone (Done s))) (iu k l))
+        rw (e, f, z) (ap conv (getD-map (λ u′. both j (done s) u′) (next u) k d d (omega (arith, length-next u)))
+        ∙ ap (ttwo (Both j) (tdone (Done s))) (iu k l))
     go t u (going e f) y it iu h true g =
         let l : k < readyT (conv t) = ltb-true k (readyT (conv t)) g in
         let n = length-next t in
         let lm : length (map (λ t′. both j t′ u) (next t)) ≡ length (next t) = length-map (next t) (λ t′. both j t′ u) in
-        rw (e, f) (ap conv (List·getD-append (map (λ t′. both j t′ u) (next t)) (map (λ u′. both j t u′) (next u)) d k (omega arith) ∙ getD-map (λ t′. both j t′ u) (next t) k d d (omega arith))
+        rw (e, f) (ap conv (List·getD-append (map (λ t′. both j t′ u) (next t)) (map (λ u′. both j t u′) (next u)) d k (omega arith)
+        ∙ getD-map (λ t′. both j t′ u) (next t) k d d (omega arith))
         ∙ ap (λ (x : T.Tree Live). ttwo (Both j) x (conv u)) (it l))
     go t u (going e f) y it iu h false g =
         let p : readyT (conv t) ≤ k = ltb-false k (readyT (conv t)) g in
@@ -175,7 +188,8 @@ next-is (both j t u) k d h = go t u (ends t) (ends u) (λ l. next-is t k d l) (�
         let z : k ≡ length A + i = omega arith in
         let a : finT (conv t) && finT (conv u) ≡ false = ap (λ (b : Bool). b && finT (conv u)) f in
         let l : i < readyT (conv u) = omega (arith, ap b2n a) in
-        rw (e, f) (ap conv (ap (λ (x : ℕ). getD (A ++ B) x d) z ∙ getD-append-add A B i d ∙ getD-map (λ u′. both j t u′) (next u) i d d (omega arith))
+        rw (e, f) (ap conv (ap (λ (x : ℕ). getD (A ++ B) x d) z ∙ getD-append-add A B i d
+        ∙ getD-map (λ u′. both j t u′) (next u) i d d (omega arith))
         ∙ ap (ttwo (Both j) (conv t)) (iu i l))
 
 -- ---- the same over lists of positions
@@ -215,7 +229,8 @@ same (ttwo x (tdone y) (tdone z)) r e = refl
 pub next-list : (t : Tree) (k : ℕ) → k < length (next t) → map node (flat (getD (next t) k t)) ≡ T.updL rootL k (map node (flat t))
 next-list t k h =
     let l : k < readyT (conv t) = omega (arith, length-next t) in
-    flat-conv (getD (next t) k t) ∙ ap T.flat (next-is t k t l) ∙ T.step-list root rootL same (conv t) k l ∙ ap (T.updL rootL k) (sym (flat-conv t))
+    flat-conv (getD (next t) k t) ∙ ap T.flat (next-is t k t l) ∙ T.step-list root rootL same (conv t) k l
+    ∙ ap (T.updL rootL k) (sym (flat-conv t))
 
 abbrev payload : Node Live → Live
 payload (rest x) = x

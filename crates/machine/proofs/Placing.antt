@@ -26,7 +26,8 @@ pub seq-opened : (s w v₁ v₂ v₃ : List ℕ) (live i at q mask : ℕ) → i 
     → Holds w v₁ (turned i (live - i) 1 (all w)) → Holds v₁ v₂ (set (all v₁) i (marked (here v₁ i) q 2 mask))
     → Holds v₂ v₃ (set (all v₂) (i + 1) (marked (here v₂ (i + 1)) at 0 mask))
     → Becomes w v₃ live (live + 1) i 1
-    (marked (here w live) (after s mostDepth (here w i .place + 1)) 2 (here w i .mask) ∷ marked (here w i) (here w i .place + 1) 0 (here w i .mask) ∷ [])
+    (marked (here w live) (after s mostDepth (here w i .place + 1)) 2 (here w i .mask)
+    ∷ marked (here w i) (here w i .place + 1) 0 (here w i .mask) ∷ [])
 seq-opened s w v₁ v₂ v₃ live i at q mask h l wf ea em eq n₁ n₂ n₃ =
     let b = one-begins w live i (omega arith) wf h in
     let b₁ = then-opened-one b v₁ 0 i (omega arith) (omega arith) l n₁ in
@@ -54,7 +55,8 @@ module _ (s w : List ℕ) (live i : ℕ) (h : Standing s w live i (placing s (he
       let c : code ≡ getD s (x .place) 0 = rw ep at ec in
       let e : place (spotOf x) (partOf s (x .place)) (x .rows) ≡ placed (spotOf x) (partOf s (x .place)) (x .rows) =
       part-rests s (x .place) (spotOf x) (x .rows) (code-small (h .stands)) (λ z. n0 (c ∙ z)) (λ z. n6 (c ∙ z)) in
-      turns-as (turns-by (one-begins w live i (h .few) (h .sound) (h .there)) refl) (ap (λ (k : ℕ). meantBy s k x ∷ []) (h .placed) ∙ ap flat (sym e))
+      turns-as (turns-by (one-begins w live i (h .few) (h .sound) (h .there)) refl)
+      (ap (λ (k : ℕ). meantBy s k x ∷ []) (h .placed) ∙ ap flat (sym e))
 
   module _ (code pl : ℕ) (ec : code ≡ getD s pl 0) (ep : pl ≡ here w i .place) (six : code ≡ 6) where
     six-there : getD s (here w i .place) 0 ≡ 6
@@ -62,7 +64,8 @@ module _ (s w : List ℕ) (live i : ℕ) (h : Standing s w live i (placing s (he
 
     -- p's place and size, and q's
     seq-flat : flat (placing s (here w i))
-        ≡ Waiting (spotOf (marked (here w live) (after s mostDepth (here w i .place + 1)) 2 (here w i .mask))) (partOf s (after s mostDepth (here w i .place + 1)))
+        ≡ Waiting (spotOf (marked (here w live) (after s mostDepth (here w i .place + 1)) 2 (here w i .mask)))
+        (partOf s (after s mostDepth (here w i .place + 1)))
         ∷ flat (placing s (marked (here w i) (here w i .place + 1) 0 (here w i .mask)))
     unfolding flat place marked
     seq-flat =
@@ -75,7 +78,12 @@ module _ (s w : List ℕ) (live i : ℕ) (h : Standing s w live i (placing s (he
         ∙ ap (λ (k : ℕ). Waiting (record { at = k; fields = x .mask }) q ∷ flat (place (on 1 (spotOf x)) (partOf s at) (x .rows))) e
 
     pub seq-fits : live + 1 ≤ 160
-    seq-fits = omega (arith, h .room, ap length seq-flat, flat-some (placing s (marked (here w i) (here w i .place + 1) 0 (here w i .mask))))
+    seq-fits = omega (
+      arith,
+      h .room,
+      ap length seq-flat,
+      flat-some (placing s (marked (here w i) (here w i .place + 1) 0 (here w i .mask))),
+    )
 
     pub seq-places : (here w i .place + 1 < 65536) × (after s mostDepth (here w i .place + 1) < 65536)
     seq-places =
@@ -83,12 +91,15 @@ module _ (s w : List ℕ) (live i : ℕ) (h : Standing s w live i (placing s (he
         (omega (arith, inside (b .1 .left), h .short), omega (arith, inside (b .1 .right), h .short))
 
     module _ (v : List ℕ) (b : Becomes w v live (live + 1) i 1
-        (marked (here w live) (after s mostDepth (here w i .place + 1)) 2 (here w i .mask) ∷ marked (here w i) (here w i .place + 1) 0 (here w i .mask) ∷ [])) where
+        (marked (here w live) (after s mostDepth (here w i .place + 1)) 2 (here w i .mask)
+        ∷ marked (here w i) (here w i .place + 1) 0 (here w i .mask) ∷ [])) where
       pub seq-next : Standing s v (live + 1) (i + 1) (placing s (here v (i + 1)))
       unfolding marked meantBy
       seq-next =
-          one-stands s (flat (placing s (here w i))) seq-flat b (h .area) (h .short) (h .room) refl (seq-below (h .stands) six-there .1 .left)
+          one-stands s (flat (placing s (here w i))) seq-flat b (h .area) (h .short) (h .room) refl
+          (seq-below (h .stands) six-there .1 .left)
 
-      pub placed-seq : (u : List ℕ) (r : ℕ) → Turns s v u (live + 1) r (i + 1) 1 (flat (placing s (here v (i + 1)))) → Turns s w u live r i 1 (flat (placing s (here w i)))
+      pub placed-seq : (u : List ℕ) (r : ℕ) → Turns s v u (live + 1) r (i + 1) 1 (flat (placing s (here v (i + 1))))
+          → Turns s w u live r i 1 (flat (placing s (here w i)))
       unfolding marked meantBy
       placed-seq = one-turns s (flat (placing s (here w i))) seq-flat b

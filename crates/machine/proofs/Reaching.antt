@@ -9,7 +9,8 @@ use Rattle.rules.specs.Packets.{Packets, Ascending, passes, put, without, keep,
 use Rattle.rules.specs.Parts.{Part, Id, Drop, Test, Set, Not, Sum, Seq, Beside, Table, Open, size}
 use Rattle.rules.specs.Reading.{bodyStart, mainOf}
 use Rattle.rules.specs.Working.{room, width}
-use Rattle.rules.specs.States.{Spot, on, moved, losing, Join, entered, split, paired, join, Tree, placed, done, waiting, negated, both, place, enter, finish, leave, next, live, run}
+use Rattle.rules.specs.States.{Spot, on, moved, losing, Join, entered, split, paired, join, Tree, placed, done, waiting, negated, both}
+use Rattle.rules.specs.States.{place, enter, finish, leave, next, live, run}
 use Rattle.rules.specs.Answers.{startSet, startSpot, start}
 use Rattle.rules.proofs.Lists.{All, none, also, all-append, all-map}
 use Rattle.rules.proofs.Sets.{union-ascending, gathered-ascending, keep-ascending, pairs-ascending}
@@ -52,8 +53,11 @@ enter-ordered (Not p) o s h = (h, place-ordered p (on 1 o) s h)
 enter-ordered (Sum p q) o s h = (place-ordered p (on 1 o) s h, place-ordered q (on (1 + size p) o) s h)
 enter-ordered (Seq p q) o s h = place-ordered p (on 1 o) s h
 enter-ordered (Beside wp wq p q) o [] h = tt
-enter-ordered (Beside wp wq p q) o (x ∷ []) h =
-    (place-ordered p (losing wq (on 3 o)) (without wq x ∷ []) (tt, tt), place-ordered q (losing wp (on (3 + size p) o)) (without wp x ∷ []) (tt, tt))
+enter-ordered (Beside wp wq p q) o (x ∷ []) h = (
+  place-ordered p (losing wq (on 3 o)) (without wq x ∷ []) (tt, tt),
+  place-ordered q (losing wp (on (3 + size p) o)) (without wp x ∷ [])
+      (tt, tt),
+)
 enter-ordered (Beside wp wq p q) o (x ∷ (y ∷ s)) h = ((tt, tt), h .1)
 enter-ordered (Table x r w start p) o s h = place-ordered p (moved start o) s h
 enter-ordered (Open x r w) o s h = tt
@@ -121,7 +125,8 @@ fit-flat s (placed o p S) a e h = also {x = Placed o p S} (e .1, (h, a)) none
 fit-flat s (done S) a e h = also {x = Done S} (h, a) none
 fit-flat s (waiting t o q) a e h = also {x = Waiting o q} (e .1 .1) (fit-flat s t a (e .0) h)
 fit-flat s (negated k t) a e h = also {x = Negated k} (omega arith, a .0) (fit-flat s t (a .1) e (omega arith))
-fit-flat s (both j t u) a e h = also {x = Both j} tt (all-append (fit-flat s t (a .0) (e .0) (omega arith)) (fit-flat s u (a .1) (e .1) (omega arith)))
+fit-flat s (both j t u) a e h = also {x = Both j} tt
+    (all-append (fit-flat s t (a .0) (e .0) (omega arith)) (fit-flat s u (a .1) (e .1) (omega arith)))
 
 pub length-flat : (t : Tree) → length (flat t) ≡ live t
 unfolding flat live

@@ -100,7 +100,8 @@ module _ (s w : List ℕ) (live : ℕ) (t : Tree) (e : state s w live ≡ flat t
   ready-held = count-shown s w live 0 ∙ ap (λ (l : List Live). count (map node l)) e ∙ nodes-ready
 
   -- the k-th ready position is there, and ready
-  pub pick-held : (k : ℕ) → k < ready t → (nth k (marks w live) < length (marks w live)) × (rdL (drop (nth k (marks w live)) (marks w live)) ≡ true)
+  pub pick-held : (k : ℕ) → k < ready t → (nth k (marks w live) < length (marks w live))
+      × (rdL (drop (nth k (marks w live)) (marks w live)) ≡ true)
   pick-held k h = nth-ready k (marks w live) (omega (arith, ready-held))
 
   -- the step there gives the rules' state

@@ -23,7 +23,8 @@ use Rattle.rules.specs.Reading.{fieldsOf, bodyStart, mainOf, sizesOf, verdict}
 use Rattle.rules.proofs.AcceptedBooks.{accepted-sizes, accepted-fields}
 use Rattle.rules.specs.Working.{room, width}
 use Rattle.rules.specs.States.{finish, run, made, stuckIn}
-use Rattle.rules.specs.Answers.{areaWords, mostPositions, startSet, start, outcome, evaluatedOf, elseNotGiven, evaluated, ranOf, elseNotRun, elseStuck, stopped, ran, finalOf, overwritten, resultRun, ranResult, areaRun, ranArea}
+use Rattle.rules.specs.Answers.{areaWords, mostPositions, startSet, start, outcome, evaluatedOf, elseNotGiven, evaluated, ranOf, elseNotRun}
+use Rattle.rules.specs.Answers.{elseStuck, stopped, ran, finalOf, overwritten, resultRun, ranResult, areaRun, ranArea}
 use Rattle.rules.proofs.Decoding.{Bytes}
 use Rattle.machine.specs.Shown.{Stands, Readable, Playable}
 use Rattle.machine.specs.Answered.{Answered}
@@ -66,10 +67,12 @@ module _ (book packet schedule result work : List ℕ) where
             (elseStuck (stuckIn (start book packet) schedule)
             (stopped (made (start book packet) schedule) (run (start book packet) schedule) (finish (run (start book packet) schedule))))))
 
-        answer-left : answer ≡ rest (namesOpen (mainOf book)) (leb (width (mainOf book) (startSet packet)) 16) (leb (room (mainOf book) (startSet packet)) 160)
+        answer-left : answer ≡ rest (namesOpen (mainOf book)) (leb (width (mainOf book) (startSet packet)) 16)
+            (leb (room (mainOf book) (startSet packet)) 160)
         unfolding ran
         answer-left =
-            rw (v, eq-eqb (length packet) (fieldsOf book) k, le-leb (16 * fieldsOf book) (length result) l, le-leb 21760 (length work) a) refl
+            rw (v, eq-eqb (length packet) (fieldsOf book) k, le-leb (16 * fieldsOf book) (length result) l, le-leb 21760 (length work) a)
+            refl
 
         module _ (small : Bytes book) (e : Evaluated) (ev : e ≡ evaluated book packet 128) where
           evaluated-left : e ≡ elseNotGiven (not (namesOpen (mainOf book))) Unpopulated
@@ -83,7 +86,8 @@ module _ (book packet schedule result work : List ℕ) where
               ) refl
 
           by-tests : (o w r : Bool) (why : Refusal)
-              → NotGiven why ≡ elseNotGiven (not o) Unpopulated (elseNotGiven w TooWide (Given (outcome book packet))) → NotRun why ≡ rest o w r
+              → NotGiven why ≡ elseNotGiven (not o) Unpopulated (elseNotGiven w TooWide (Given (outcome book packet)))
+              → NotRun why ≡ rest o w r
           by-tests true w r why q = let c : why ≡ Unpopulated = cc in ap NotRun c
           by-tests false false r why q = let c : why ≡ TooWide = cc in ap NotRun c
           by-tests false true r why q = let y : _≡_ {A = ℕ} 0 1 = cc in absurd (omega arith)
@@ -91,7 +95,8 @@ module _ (book packet schedule result work : List ℕ) where
           -- 9 and 10 as the evaluator gives them
           pub refused-evaluated : (why : Refusal) → e ≡ NotGiven why → NotRun why ≡ answer
           refused-evaluated why q =
-              by-tests (namesOpen (mainOf book)) (leb (width (mainOf book) (startSet packet)) 16) (leb (room (mainOf book) (startSet packet)) 160) why
+              by-tests (namesOpen (mainOf book)) (leb (width (mainOf book) (startSet packet)) 16)
+              (leb (room (mainOf book) (startSet packet)) 160) why
               (sym q ∙ evaluated-left)
               ∙ sym answer-left
 
@@ -120,16 +125,26 @@ module _ (book packet schedule result work : List ℕ) where
 
             pub refused-positions : 160 < o .room → NotRun Positions ≡ answer
             refused-positions h =
-                sym (answer-left ∙ rw (ad .populated, ad .narrow, lt-leb (room (mainOf book) (startSet packet)) 160 (omega (arith, room-is))) refl)
+                sym (answer-left ∙ rw (
+                  ad .populated,
+                  ad .narrow,
+                  lt-leb (room (mainOf book) (startSet packet)) 160
+                      (omega (arith, room-is)),
+                ) refl)
 
             module _ (h : o .room ≤ 160) where
               pub runs : Readable book × Stands book (bodyStart book 0) × Playable book (start book packet)
               runs =
                   let b = accepted-reads book z v small in
-                  let st = accepted-stands book z v small (ad .populated) in
-                  (b, st, start-playable book packet b st (leb-true (width (mainOf book) (startSet packet)) 16 (ad .narrow)) (omega (arith, room-is)))
+                  let st = accepted-stands book z v small (ad .populated) in (
+                    b,
+                    st,
+                    start-playable book packet b st (leb-true (width (mainOf book) (startSet packet)) 16 (ad .narrow))
+                        (omega (arith, room-is)),
+                  )
 
-              answer-is : answer ≡ stopped (made (start book packet) schedule) (run (start book packet) schedule) (finish (run (start book packet) schedule))
+              answer-is : answer ≡ stopped (made (start book packet) schedule) (run (start book packet) schedule)
+                  (finish (run (start book packet) schedule))
               answer-is =
                   answer-left ∙ rw (
                     ad .populated,
@@ -140,7 +155,8 @@ module _ (book packet schedule result work : List ℕ) where
 
               -- the conducted run is the answer
               pub conducted : (r : Ran) (result′ work′ : List ℕ)
-                  → r ≡ stopped (made (start book packet) schedule) (run (start book packet) schedule) (finish (run (start book packet) schedule))
+                  → r ≡ stopped (made (start book packet) schedule) (run (start book packet) schedule)
+                  (finish (run (start book packet) schedule))
                   → result′ ≡ resultRun r (valuesOf (fieldsOf book) (finalOf (finish (run (start book packet) schedule)))) result
                   → work′ ≡ overwritten (replicate 21760 0) work → Answered book packet schedule result work r result′ work′
               unfolding ranResult ranArea
@@ -148,12 +164,14 @@ module _ (book packet schedule result work : List ℕ) where
                   let s : r ≡ answer = er ∙ sym answer-is in
                   record {
                     says = s;
-                    out = eo ∙ ap (λ (x : Ran). resultRun x (valuesOf (fieldsOf book) (finalOf (finish (run (start book packet) schedule)))) result) s;
+                    out = eo ∙ ap (λ (x : Ran). resultRun x (valuesOf (fieldsOf book)
+                        (finalOf (finish (run (start book packet) schedule)))) result) s;
                     area = ea ∙ stopped-area (finish (run (start book packet) schedule)) ∙ ap (λ (x : Ran). areaRun x work) (sym er ∙ s);
                   }
                 where
                   stopped-area : (fs : List Packets)
-                      → overwritten (replicate 21760 0) work ≡ areaRun (stopped (made (start book packet) schedule) (run (start book packet) schedule) fs) work
+                      → overwritten (replicate 21760 0) work ≡ areaRun
+                      (stopped (made (start book packet) schedule) (run (start book packet) schedule) fs) work
                   stopped-area [] = refl
                   stopped-area (f ∷ fs) = refl
 

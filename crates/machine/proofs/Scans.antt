@@ -19,13 +19,15 @@ unfolding marks
 length-marks w live c = length-map (nodes w live) shape ∙ length-nodes w live c
 
 -- the position at an index, by its phase word
-pub drop-marks : (w : List ℕ) (live : ℕ) (c : live ≤ 160) (i : ℕ) → i < live → drop i (marks w live) ≡ kindOf (getD w (i * 8 + 1) 0) (here w i) ∷ drop (suc i) (marks w live)
+pub drop-marks : (w : List ℕ) (live : ℕ) (c : live ≤ 160) (i : ℕ) → i < live
+    → drop i (marks w live) ≡ kindOf (getD w (i * 8 + 1) 0) (here w i) ∷ drop (suc i) (marks w live)
 unfolding marks nodes here posOf
 drop-marks w live c i h =
     let e : length (map shape (take live (all w))) ≡ live = length-marks w live c in
     drop-cons (map shape (take live (all w))) i (shape (posOf (slots w) [])) (omega arith)
     ∙ ap (λ (n : Node Pos). n ∷ drop (suc i) (map shape (take live (all w))))
-    (List·getD-map shape (take live (all w)) i (posOf (slots w) []) ∙ ap shape (getD-take live (all w) i (posOf (slots w) []) h ∙ at-index w i)
+    (List·getD-map shape (take live (all w)) i (posOf (slots w) [])
+    ∙ ap shape (getD-take live (all w) i (posOf (slots w) []) h ∙ at-index w i)
     ∙ ap (λ (k : ℕ). kindOf k (posOf (slots w) (getD (heads w) i []))) (word-at w i 1 (omega arith) (omega arith)))
 
 -- whether a node is finished
@@ -63,7 +65,8 @@ pub fin-at : (w : List ℕ) (live : ℕ) (c : live ≤ 160) (i : ℕ) → i < li
 fin-at w live c i h = ap fin (drop-marks w live c i h) ∙ fin-kind (getD w (i * 8 + 1) 0) (here w i) (drop (suc i) (marks w live))
 
 pub fin-past : (w : List ℕ) (live : ℕ) (c : live ≤ 160) (i : ℕ) → live ≤ i → fin (drop i (marks w live)) ≡ false
-fin-past w live c i h = let e : length (marks w live) ≡ live = length-marks w live c in ap fin (drop-of-length-le (marks w live) {i = i} (omega arith))
+fin-past w live c i h = let e : length (marks w live)
+    ≡ live = length-marks w live c in ap fin (drop-of-length-le (marks w live) {i = i} (omega arith))
 
 pub rd-at : (w : List ℕ) (live : ℕ) (c : live ≤ 160) (i : ℕ) → i < live
     → rdL (drop i (marks w live)) ≡ rdK (getD w (i * 8 + 1) 0) (fin (drop (i + 1) (marks w live))) (fin (drop (i + 2) (marks w live)))
@@ -113,13 +116,15 @@ module _ {X : Type 0} where
   nth-drop k (suc i) (n ∷ ns) h = nth-drop k i ns (omega arith)
 
 -- the same over the words, at the code's i + 1, with the flag that the code has
-pub count-turn : (w : List ℕ) (live : ℕ) (c : live ≤ 160) (i : ℕ) (b : Bool) → i < live → b ≡ rdL (drop i (marks w live)) → count (drop i (marks w live)) ≡ b2n b + count (drop (i + 1) (marks w live))
+pub count-turn : (w : List ℕ) (live : ℕ) (c : live ≤ 160) (i : ℕ) (b : Bool) → i < live → b ≡ rdL (drop i (marks w live))
+    → count (drop i (marks w live)) ≡ b2n b + count (drop (i + 1) (marks w live))
 count-turn w live c i b h e =
     let l : length (marks w live) ≡ live = length-marks w live c in
     count-drop i (marks w live) (omega arith) ∙ rw (e, add-one i)
 
 pub count-end : (w : List ℕ) (live : ℕ) (c : live ≤ 160) (i : ℕ) → live ≤ i → count (drop i (marks w live)) ≡ 0
-count-end w live c i h = let l : length (marks w live) ≡ live = length-marks w live c in ap count (drop-of-length-le (marks w live) {i = i} (omega arith))
+count-end w live c i h = let l : length (marks w live)
+    ≡ live = length-marks w live c in ap count (drop-of-length-le (marks w live) {i = i} (omega arith))
 
 nth-turn : (w : List ℕ) (live : ℕ) (c : live ≤ 160) (i : ℕ) (b : Bool) (k : ℕ) → i < live → rdL (drop i (marks w live)) ≡ b
     → nth k (drop i (marks w live)) ≡ nthB b k (λ j. nth j (drop (i + 1) (marks w live)))
@@ -131,16 +136,21 @@ pub nth-skip : (w : List ℕ) (live : ℕ) (c : live ≤ 160) (i : ℕ) (b : Boo
     → nth k (drop i (marks w live)) ≡ suc (nth k (drop (i + 1) (marks w live)))
 nth-skip w live c i b k h e f = nth-turn w live c i false k h (sym e ∙ f)
 
-pub nth-here : (w : List ℕ) (live : ℕ) (c : live ≤ 160) (i : ℕ) (b : Bool) (k : ℕ) → i < live → b ≡ rdL (drop i (marks w live)) → b ≡ true → k ≡ 0
+pub nth-here : (w : List ℕ) (live : ℕ) (c : live ≤ 160) (i : ℕ) (b : Bool) (k : ℕ) → i < live → b ≡ rdL (drop i (marks w live)) → b ≡ true
+    → k ≡ 0
     → nth k (drop i (marks w live)) ≡ 0
-nth-here w live c i b k h e f z = nth-turn w live c i true k h (sym e ∙ f) ∙ ap (λ (j : ℕ). nthB true j (λ j. nth j (drop (i + 1) (marks w live)))) z
+nth-here w live c i b k h e f z = nth-turn w live c i true k h (sym e ∙ f)
+    ∙ ap (λ (j : ℕ). nthB true j (λ j. nth j (drop (i + 1) (marks w live)))) z
 
-pub nth-next : (w : List ℕ) (live : ℕ) (c : live ≤ 160) (i : ℕ) (b : Bool) (k m : ℕ) → i < live → b ≡ rdL (drop i (marks w live)) → b ≡ true → k ≡ suc m
+pub nth-next : (w : List ℕ) (live : ℕ) (c : live ≤ 160) (i : ℕ) (b : Bool) (k m : ℕ) → i < live → b ≡ rdL (drop i (marks w live))
+    → b ≡ true → k ≡ suc m
     → nth k (drop i (marks w live)) ≡ suc (nth m (drop (i + 1) (marks w live)))
-nth-next w live c i b k m h e f z = nth-turn w live c i true k h (sym e ∙ f) ∙ ap (λ (j : ℕ). nthB true j (λ j. nth j (drop (i + 1) (marks w live)))) z
+nth-next w live c i b k m h e f z = nth-turn w live c i true k h (sym e ∙ f)
+    ∙ ap (λ (j : ℕ). nthB true j (λ j. nth j (drop (i + 1) (marks w live)))) z
 
 pub nth-end : (w : List ℕ) (live : ℕ) (c : live ≤ 160) (i k : ℕ) → live ≤ i → nth k (drop i (marks w live)) ≡ 0
-nth-end w live c i k h = let l : length (marks w live) ≡ live = length-marks w live c in ap (nth k) (drop-of-length-le (marks w live) {i = i} (omega arith))
+nth-end w live c i k h = let l : length (marks w live)
+    ≡ live = length-marks w live c in ap (nth k) (drop-of-length-le (marks w live) {i = i} (omega arith))
 
 -- the end of a chain of tests
 pub and-true : {b p q r : Bool} → r ≡ q → b ≡ p → b ≡ true → r ≡ (p && q)

@@ -1,7 +1,8 @@
 -- The positions that the area holds: what a turned, a written header and a written slot do to them.
 use mathlib.Core.Path.{_≡_, refl, sym, ap, ap₂, subst, _∙_}
 use mathlib.Core.Logic.{∥∥₁-map}
-use mathlib.Core.List.{List, [], _∷_, _++_, map, append-assoc, List·Mem, List·Memᴰ, List·Memᴰ·head, List·Memᴰ·tail, List·Nodup, nodup-cons, nodup-nil, Perm, Perm·nodup, Perm·mem-iff}
+use mathlib.Core.List.{List, [], _∷_, _++_, map, append-assoc, List·Mem, List·Memᴰ, List·Memᴰ·head, List·Memᴰ·tail, List·Nodup, nodup-cons}
+use mathlib.Core.List.{nodup-nil, Perm, Perm·nodup, Perm·mem-iff}
 use Prim.Native.Nat.{ℕ, zero, suc, _+_, _-_, _*_, _%_, _≤_, _<_}
 use native.Mathlib.Omega.{arith}
 use lib.ListN.{length, take, drop, getD, set, length-map, List·getD-map}
@@ -39,14 +40,17 @@ unfolding order
 order-at w i h = List·getD-map slotOf (heads w) i [] ∙ word-at w i 4 h (omega arith)
 
 pub slot-small : (w : List ℕ) (i : ℕ) → Wf (order w) → i < 160 → getD w (i * 8 + 4) 0 < 160
-slot-small w i s h = let l : length (order w) ≡ 160 = length-order w in omega (arith, s .small (getD (order w) i 0) (mem-getD (order w) i (omega arith)), order-at w i h)
+slot-small w i s h = let l : length (order w)
+    ≡ 160 = length-order w in omega (arith, s .small (getD (order w) i 0) (mem-getD (order w) i (omega arith)), order-at w i h)
 
 -- ---- positions opened and closed
 pub turned-holds : (w v : List ℕ) (p m q : ℕ) → Wf (order w) → Now w v (turned p m q (heads w)) (slots w) → Holds w v (turned p m q (all w))
 unfolding order all
 turned-holds w v p m q s n = record {
-  all = ap (λ (S : List (List ℕ)). map (posOf S) (heads v)) (n .slots) ∙ ap (map (posOf (slots w))) (n .heads) ∙ turned-map (posOf (slots w)) p m q (heads w);
-  sound = subst Wf (sym (ap (map slotOf) (n .heads) ∙ turned-map slotOf p m q (heads w))) (wf-perm (turned-perm p m q (map slotOf (heads w))) s);
+  all = ap (λ (S : List (List ℕ)). map (posOf S) (heads v)) (n .slots) ∙ ap (map (posOf (slots w))) (n .heads)
+      ∙ turned-map (posOf (slots w)) p m q (heads w);
+  sound = subst Wf (sym (ap (map slotOf) (n .heads) ∙ turned-map slotOf p m q (heads w)))
+      (wf-perm (turned-perm p m q (map slotOf (heads w))) s);
   kept = n .kept;
   long = n .long;
 }
@@ -62,7 +66,8 @@ miss S s b h n =
     ap (λ (v : List ℕ). record { place = getD h 0 0; phase = getD h 1 0; mask = getD h 2 0 % 256; rows = chunks (getD h 3 0) v })
     (getD-set-other S s (slotOf h) b [] n)
 
-map-miss : (S : List (List ℕ)) (s : ℕ) (b : List ℕ) (H : List (List ℕ)) → ¬ List·Mem s (map slotOf H) → map (posOf (set S s b)) H ≡ map (posOf S) H
+map-miss : (S : List (List ℕ)) (s : ℕ) (b : List ℕ) (H : List (List ℕ)) → ¬ List·Mem s (map slotOf H)
+    → map (posOf (set S s b)) H ≡ map (posOf S) H
 map-miss S s b [] n = refl
 map-miss S s b (h ∷ H) n =
     ap (λ (p : Pos). p ∷ map (posOf (set S s b)) H) (miss S s b h (λ e. n ∣ List·Memᴰ·head (sym e) ∣₁))
@@ -87,19 +92,22 @@ map-hit S b (x ∷ H) (suc i) n h =
 
 module _ (w v : List ℕ) (i : ℕ) (h : List ℕ) (l : i < 160) (s : Wf (order w)) where
   -- a header is written that keeps its slot
-  pub head-holds : slotOf h ≡ slotOf (getD (heads w) i []) → Now w v (set (heads w) i h) (slots w) → Holds w v (set (all w) i (posOf (slots w) h))
+  pub head-holds : slotOf h ≡ slotOf (getD (heads w) i []) → Now w v (set (heads w) i h) (slots w)
+      → Holds w v (set (all w) i (posOf (slots w) h))
   unfolding order all
   head-holds e n =
       let o : map slotOf (heads v) ≡ map slotOf (heads w) = ap (map slotOf) (n .heads) ∙ map-set-same slotOf (heads w) i h [] e in
       record {
-        all = ap (λ (S : List (List ℕ)). map (posOf S) (heads v)) (n .slots) ∙ ap (map (posOf (slots w))) (n .heads) ∙ map-set (posOf (slots w)) (heads w) i h;
+        all = ap (λ (S : List (List ℕ)). map (posOf S) (heads v)) (n .slots) ∙ ap (map (posOf (slots w))) (n .heads)
+            ∙ map-set (posOf (slots w)) (heads w) i h;
         sound = subst Wf (sym o) s;
         kept = n .kept;
         long = n .long;
       }
 
   -- and its slot
-  pub both-hold : (b : List ℕ) → slotOf h ≡ slotOf (getD (heads w) i []) → Now w v (set (heads w) i h) (set (slots w) (slotOf (getD (heads w) i [])) b)
+  pub both-hold : (b : List ℕ) → slotOf h ≡ slotOf (getD (heads w) i [])
+      → Now w v (set (heads w) i h) (set (slots w) (slotOf (getD (heads w) i [])) b)
       → Holds w v (set (all w) i (posOf (set (slots w) (slotOf (getD (heads w) i [])) b) h))
   unfolding order all
   both-hold b e n =
@@ -108,7 +116,8 @@ module _ (w v : List ℕ) (i : ℕ) (h : List ℕ) (l : i < 160) (s : Wf (order 
       let q : ℕ = slotOf (getD (heads w) i []) in
       let T : List (List ℕ) = set (slots w) q b in
       record {
-        all = ap (λ (S : List (List ℕ)). map (posOf S) (heads v)) (n .slots) ∙ ap (map (posOf T)) (n .heads) ∙ map-set (posOf T) (heads w) i h
+        all = ap (λ (S : List (List ℕ)). map (posOf S) (heads v)) (n .slots) ∙ ap (map (posOf T)) (n .heads)
+            ∙ map-set (posOf T) (heads w) i h
             ∙ ap (λ (x : List Pos). set x i (posOf T h)) (map-hit (slots w) b (heads w) i (s .once) (omega arith))
             ∙ set-set (map (posOf (slots w)) (heads w)) i (posOf T (getD (heads w) i [])) (posOf T h);
         sound = subst Wf (sym o) s;
@@ -151,4 +160,10 @@ give-holds w v i n x l s k nw =
     let e : getD (set (slots w) q b) q [] ≡ b = getD-set-same (slots w) q b [] (omega arith) in
     let r = both-hold w v i (givenHead h n) l s b refl nw in
     let p : Packets → Pos = λ rs. record { place = getD h 0 0; phase = getD h 1 0; mask = getD h 2 0 % 256; rows = rs } in
-    record { all = r .all ∙ ap (λ (rs : Packets). set (all w) i (p rs)) (ap (chunks n) e ∙ front-rows n x y k); sound = r .sound; kept = r .kept; long = r .long }
+    record {
+      all = r .all ∙ ap (λ (rs : Packets). set (all w) i (p rs))
+          (ap (chunks n) e ∙ front-rows n x y k);
+      sound = r .sound;
+      kept = r .kept;
+      long = r .long;
+    }

@@ -12,7 +12,8 @@ use lib.ListN.{length, getD, drop, length-drop, length-append, List·getD-eq-def
 use borrow.Author.Tests.{ne-eqb, eqb-true}
 use Rattle.rules.specs.Parts.{Part, Id, Drop, Test, Set, Not, Sum, Seq, Beside, Table, Open, write, size, namesOpen}
 use Rattle.rules.specs.Books.{mostDepth, Scope, scopeOf, useOf, noUse, Fine}
-use Rattle.rules.specs.Reading.{fieldsOf, tablesOf, lengthAt, readsAt, writesAt, numberAt, bodyStart, below, after, built, partAt, bodyAt, useAt}
+use Rattle.rules.specs.Reading.{fieldsOf, tablesOf, lengthAt, readsAt, writesAt, numberAt, bodyStart, below, after, built, partAt, bodyAt}
+use Rattle.rules.specs.Reading.{useAt}
 use Rattle.rules.specs.Packets.{Packets}
 use Rattle.rules.specs.States.{Spot, placed, place}
 use Rattle.rules.proofs.Decoding.{reads, drop-head, size-positive}
@@ -60,14 +61,22 @@ pub record Found (s : List ℕ) (at : ℕ) (p : Part) : Type 0 where
   pub stands : Stands s at
   pub ends : after s mostDepth at ≡ at + size p
 
-found : {s : List ℕ} {at : ℕ} {main pred : Bool} {p : Part} → Placed s (scope s main) (useAt s) 31 pred at p → namesOpen p ≡ false → Found s at p
+found : {s : List ℕ} {at : ℕ} {main pred : Bool} {p : Part} → Placed s (scope s main) (useAt s) 31 pred at p → namesOpen p ≡ false
+    → Found s at p
 unfolding partOf
 found {s} {at} {main} {pred} {p} h o =
     let g = fine-deeper (scope s main) (useAt s) 31 pred p (h .fine) in
     let r = reads s (scope s main) (useAt s) mostDepth pred at p (h .rest) g (h .bytes) in
     record {
       same = r .1;
-      stands = record { main = main; pred = pred; rest = h .rest; fine = rw (r .1) g; written = rw (r .1) (h .bytes); closed = rw (r .1) o };
+      stands = record {
+        main = main;
+        pred = pred;
+        rest = h .rest;
+        fine = rw (r .1) g;
+        written = rw (r .1) (h .bytes);
+        closed = rw (r .1) o;
+      };
       ends = r .2;
     }
 
@@ -139,7 +148,8 @@ module _ {s : List ℕ} {at : ℕ} (h : Stands s at) where
       let f = fine-table (scope s (h .main)) (useAt s) 31 (h .pred) x r w start p (fine-as (Table x r w start p) e) in
       go (f .0) (f .1) (bodyAt s x) refl (f .2)
     where
-      go : 0 < x → x ≤ tablesOf s → (o : Option Part) → bodyAt s x ≡ o → useOf x (readsAt s x) (writesAt s x) (bodyStart s x) o ≡ Table x r w start p
+      go : 0 < x → x ≤ tablesOf s → (o : Option Part) → bodyAt s x ≡ o
+          → useOf x (readsAt s x) (writesAt s x) (bodyStart s x) o ≡ Table x r w start p
           → (start ≡ bodyStart s x) × (partOf s start ≡ p) × Stands s start
       go l u none e q = let z : _≡_ {A = ℕ} 0 1 = cc in absurd (omega arith)
       go l u (some p′) e q =
@@ -200,7 +210,8 @@ module _ (s : List ℕ) (at : ℕ) where
   part-id (inr l) = part-built (getD s at 0) refl ∙ rw List·getD-eq-default
 
   -- any other but id and a sequence rests where it is placed
-  use-rests : (o : Spot) (S : Packets) (x r w start : ℕ) (b : Option Part) → place o (useOf x r w start b) S ≡ placed o (useOf x r w start b) S
+  use-rests : (o : Spot) (S : Packets) (x r w start : ℕ) (b : Option Part)
+      → place o (useOf x r w start b) S ≡ placed o (useOf x r w start b) S
   unfolding place
   use-rests o S x r w start none = refl
   use-rests o S x r w start (some p) = refl
@@ -257,8 +268,11 @@ pub record Two (s : List ℕ) (at : ℕ) : Type 0 where
 
 two-of : (s : List ℕ) (at : ℕ) (p q : Part) → Pair s at p q → (partOf s at ≡ p) × (partOf s (after s mostDepth at) ≡ q) × Two s at
 two-of s at p q h =
-    let e = h .first .ends in
-    (h .first .same, rw e (h .second .same), record { left = h .first .stands; right = rw e (h .second .stands); ends = rw (h .first .same) e })
+    let e = h .first .ends in (
+      h .first .same,
+      rw e (h .second .same),
+      record { left = h .first .stands; right = rw e (h .second .stands); ends = rw (h .first .same) e },
+    )
 
 module _ {s : List ℕ} {at : ℕ} (h : Stands s at) where
   pub sum-below : getD s at 0 ≡ 5 → (partOf s at ≡ Sum (partOf s (at + 1)) (partOf s (after s mostDepth (at + 1)))) × Two s (at + 1)
@@ -274,10 +288,12 @@ module _ {s : List ℕ} {at : ℕ} (h : Stands s at) where
       (p ∙ rw (f .0, f .1), f .2)
 
   pub beside-below : getD s at 0 ≡ 7
-      → (partOf s at ≡ Beside (getD s (at + 1) 0) (getD s (at + 2) 0) (partOf s (at + 3)) (partOf s (after s mostDepth (at + 3)))) × Two s (at + 3)
+      → (partOf s at ≡ Beside (getD s (at + 1) 0) (getD s (at + 2) 0) (partOf s (at + 3)) (partOf s (after s mostDepth (at + 3))))
+      × Two s (at + 3)
   beside-below e =
       let p = part-beside s at e in
-      let f = two-of s (at + 3) (first s at) (second s at) (below-beside h (getD s (at + 1) 0) (getD s (at + 2) 0) (first s at) (second s at) p) in
+      let f = two-of s (at + 3) (first s at) (second s at)
+      (below-beside h (getD s (at + 1) 0) (getD s (at + 2) 0) (first s at) (second s at) p) in
       (p ∙ rw (f .0, f .1), f .2)
 
   pub table-below : Readable s → getD s at 0 ≡ 8 → (r w : ℕ) × (partOf s at

@@ -2,7 +2,8 @@
 use mathlib.Core.Path.{_≡_, refl, sym, ap, subst, _∙_}
 use mathlib.Core.Logic.{_⊎_, inl, inr, ∥∥₁-elim}
 use mathlib.Core.HLevel.{⊥-prop}
-use mathlib.Core.List.{List, [], _∷_, _++_, map, append-assoc, append-nil, List·Mem, List·Memᴰ, List·Memᴰ·cases-cons, List·Memᴰ·not-nil, List·Nodup, nodup-cons, nodup-nil}
+use mathlib.Core.List.{List, [], _∷_, _++_, map, append-assoc, append-nil, List·Mem, List·Memᴰ, List·Memᴰ·cases-cons, List·Memᴰ·not-nil}
+use mathlib.Core.List.{List·Nodup, nodup-cons, nodup-nil}
 use Prim.Native.Nat.{ℕ, zero, suc, _+_, _-_, _*_, _^_, _≤_, _<_}
 use native.Mathlib.Numerals.{add-one}
 use native.Mathlib.Decide.{decLt}
@@ -84,7 +85,8 @@ numbering-turns w v u i j h n e s k =
       tail =
           ap (drop j) o ∙ drop-cons (set O j (159 - j)) j 0 (omega arith)
           ∙ ap (λ (x : ℕ). x ∷ drop (suc j) (set O j (159 - j))) (getD-set-same O j (159 - j) 0 (omega arith))
-          ∙ ap (λ (l : List ℕ). (159 - j) ∷ l) (drop-set-lt (suc j) O j (159 - j) (omega arith) ∙ ap (λ (x : ℕ). drop x O) (sym e) ∙ n .tail ∙ ap down y)
+          ∙ ap (λ (l : List ℕ). (159 - j) ∷ l) (drop-set-lt (suc j) O j (159 - j) (omega arith) ∙ ap (λ (x : ℕ). drop x O) (sym e)
+          ∙ n .tail ∙ ap down y)
           ∙ ap down (sym z);
       area = omega (arith, n .area, k .long);
       kept = k .kept ∙ n .kept;
@@ -111,13 +113,17 @@ pad-turn p v i h l e =
 
 pub pad-end : (packet v : List ℕ) (i : ℕ) → i ≡ length packet → v ≡ take i packet ++ replicate (8 - i) 0 → v ≡ padded packet
 unfolding padded
-pad-end p v i h e = e ∙ ap (λ (n : ℕ). take n p ++ replicate (8 - n) 0) h ∙ ap (λ (l : List ℕ). l ++ replicate (8 - length p) 0) (lib.Seq.take-all (length p) p (omega arith))
+pad-end p v i h e = e ∙ ap (λ (n : ℕ). take n p ++ replicate (8 - n) 0) h
+    ∙ ap (λ (l : List ℕ). l ++ replicate (8 - length p) 0) (lib.Seq.take-all (length p) p (omega arith))
 
 -- ---- the main policy placed
 
-module _ (s packet w v₀ v₁ v₂ : List ℕ) (at mask : ℕ) (S : PacketSet) (b : Readable s) (st : Stands s (bodyStart s 0)) (pl : Playable s (start s packet))
-    (area : 21760 ≤ length w) (n : Numbered w v₀) (ea : at ≡ bodyStart s 0) (em : mask ≡ allFields (fieldsOf s)) (m : ℕ) (iS : Is S m (startSet packet))
-    (n₁ : Holds v₀ v₁ (set (all v₀) 0 (given (here v₀ 0) (rows S)))) (n₂ : Holds v₁ v₂ (set (all v₁) 0 (marked (here v₁ 0) at 0 mask))) where
+module _ (s packet w v₀ v₁ v₂ : List ℕ) (at mask : ℕ) (S : PacketSet) (b : Readable s) (st : Stands s (bodyStart s 0))
+    (pl : Playable s (start s packet))
+    (area : 21760 ≤ length w) (n : Numbered w v₀) (ea : at ≡ bodyStart s 0) (em : mask ≡ allFields (fieldsOf s)) (m : ℕ)
+    (iS : Is S m (startSet packet))
+    (n₁ : Holds v₀ v₁ (set (all v₀) 0 (given (here v₀ 0) (rows S))))
+    (n₂ : Holds v₁ v₂ (set (all v₁) 0 (marked (here v₁ 0) at 0 mask))) where
   abbrev startY : Pos
   startY = marked (given (here v₀ 0) (startSet packet)) (bodyStart s 0) 0 (allFields (fieldsOf s))
 
@@ -133,7 +139,8 @@ module _ (s packet w v₀ v₁ v₂ : List ℕ) (at mask : ℕ) (S : PacketSet) 
   pub start-stands : Standing s v₂ 1 0 (placing s (here v₂ 0))
   unfolding marked run
   start-stands =
-      only-stands s start-there (omega (arith, area, n .long)) (b .short) (omega (arith, ap length start-flat, pl [] .1)) (omega arith) (omega arith) refl st
+      only-stands s start-there (omega (arith, area, n .long)) (b .short) (omega (arith, ap length start-flat, pl [] .1)) (omega arith)
+      (omega arith) refl st
 
   pub started : (u : List ℕ) (r : ℕ) → Turns s v₂ u 1 r 0 1 (flat (placing s (here v₂ 0))) → Held s w u r (start s packet)
   started u r t =

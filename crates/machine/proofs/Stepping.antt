@@ -17,7 +17,8 @@ use Rattle.rules.specs.States.{Spot, join, place, enter}
 use Rattle.rules.proofs.Lists.{All, none, also, all-at}
 use Rattle.machine.specs.Area.{Pos, here, nodes, order, Wf, given, finished, Becomes}
 use Rattle.machine.specs.Ready.{fin, rdL, marks}
-use Rattle.machine.specs.Shown.{Live, Placed, Done, Waiting, Negated, Both, flat, partOf, spotOf, joinOf, meantBy, meant, state, Turns, Stands, placing, entering, Standing, Entering, Leaving, Fit, stepped, Stepping, Stepped}
+use Rattle.machine.specs.Shown.{Live, Placed, Done, Waiting, Negated, Both, flat, partOf, spotOf, joinOf, meantBy, meant, state}
+use Rattle.machine.specs.Shown.{Turns, Stands, placing, entering, Standing, Entering, Leaving, Fit, stepped, Stepping, Stepped}
 use Rattle.machine.proofs.Acts.{phase-from}
 use Rattle.machine.proofs.Slots.{length-nodes}
 use Rattle.machine.proofs.Scans.{fin-at, fin-past, rd-at, rdK, rdK-done, rdK-one, rdK-two}
@@ -26,13 +27,15 @@ use Rattle.machine.proofs.Turning.{turns-by, turns-as, turns-state}
 use Rattle.machine.proofs.Standing.{part-id, seq-below}
 
 -- id and a sequence: entering is placing
-pub enter-place : (s : List ℕ) (x : Pos) → Stands s (x .place) → (getD s (x .place) 0 ≡ 0) ⊎ (getD s (x .place) 0 ≡ 6) → entering s x ≡ placing s x
+pub enter-place : (s : List ℕ) (x : Pos) → Stands s (x .place) → (getD s (x .place) 0 ≡ 0) ⊎ (getD s (x .place) 0 ≡ 6)
+    → entering s x ≡ placing s x
 unfolding enter place
 enter-place s x h (inl e) = let p = part-id s (x .place) (inl e) in rw p
 enter-place s x h (inr e) = let p = seq-below h e .0 in rw p
 
 -- the code, as the walk finds it
-pub read-as : {s w : List ℕ} {live i code code′ : ℕ} → Entering s w live i code → getD s (here w i .place) 0 ≡ code′ → Entering s w live i code′
+pub read-as : {s w : List ℕ} {live i code code′ : ℕ} → Entering s w live i code → getD s (here w i .place) 0 ≡ code′
+    → Entering s w live i code′
 read-as h e = record { standing = h .standing; readable = h .readable; reads = e; slim = h .slim; up = h .up }
 
 pub placed-there : (s w : List ℕ) (live i : ℕ) {code : ℕ} → Entering s w live i code
@@ -45,7 +48,8 @@ pub length-state : (s w : List ℕ) (live : ℕ) → live ≤ 160 → length (st
 unfolding state
 length-state s w live l = length-map (nodes w live) (meant s) ∙ length-nodes w live l
 
-pub state-at : (s w : List ℕ) (live i : ℕ) → i < live → live ≤ 160 → drop i (state s w live) ≡ meant s (here w i) ∷ drop (i + 1) (state s w live)
+pub state-at : (s w : List ℕ) (live i : ℕ) → i < live → live ≤ 160
+    → drop i (state s w live) ≡ meant s (here w i) ∷ drop (i + 1) (state s w live)
 unfolding state
 state-at s w live i h l =
     let L : List Live = map (meant s) (nodes w live) in
@@ -145,7 +149,8 @@ module _ (s w : List ℕ) (live i : ℕ) (h : Stepping s w live i) where
     one-below : (i + 1 < live) × (here w (i + 1) .phase ≡ 1)
     one-below =
         fin-there w live (i + 1) (h .few)
-        (sym (rdK-one (here w i .phase) (fin (drop (i + 1) (marks w live))) (fin (drop (i + 2) (marks w live))) (λ e. omega arith) (λ e. omega arith) (omega arith))
+        (sym (rdK-one (here w i .phase) (fin (drop (i + 1) (marks w live))) (fin (drop (i + 2) (marks w live))) (λ e. omega arith)
+        (λ e. omega arith) (omega arith))
         ∙ ready-is)
 
     at-first : meant s (here w (i + 1)) ≡ Done (here w (i + 1) .rows)
@@ -178,7 +183,8 @@ module _ (s w : List ℕ) (live i : ℕ) (h : Stepping s w live i) where
         ap stepped (two-states phase ep (omega arith) (omega arith)
         ∙ ap (λ (y : Live). y ∷ Done (here w (i + 1) .rows) ∷ drop (i + 2) (state s w live)) at-waiting)
 
-    pub can-take : (Leaving w live i 1 [] × Stands s (here w i .place) × (length s ≤ 4096)) × (live + length (flat (placing s nextOf)) ≤ 162)
+    pub can-take : (Leaving w live i 1 [] × Stands s (here w i .place) × (length s ≤ 4096))
+        × (live + length (flat (placing s nextOf)) ≤ 162)
     can-take =
         let o = one-below phase ep (omega arith) (omega arith) in
         let f = first-slim phase ep (omega arith) (omega arith) in
@@ -247,7 +253,8 @@ module _ (s w : List ℕ) (live i : ℕ) (h : Stepping s w live i) where
           | no k ↦ omega arith
           | yes k ↦
               let one : here w i .phase ≡ 1 = omega (arith, n0, n2, n3) in
-              absurd (false≢true (sym (rdK-done (here w i .phase) (fin (drop (i + 1) (marks w live))) (fin (drop (i + 2) (marks w live))) one) ∙ ready-is))
+              absurd (false≢true (sym (rdK-done (here w i .phase) (fin (drop (i + 1) (marks w live)))
+              (fin (drop (i + 2) (marks w live))) one) ∙ ready-is))
         ]
 
     two-below : ((i + 1 < live) × (here w (i + 1) .phase ≡ 1)) × ((i + 2 < live) × (here w (i + 2) .phase ≡ 1))
@@ -276,7 +283,8 @@ module _ (s w : List ℕ) (live i : ℕ) (h : Stepping s w live i) where
     joinedOf = join (joinOf s (here w i .phase - 4) (here w i .place)) (here w (i + 1) .rows) (here w (i + 2) .rows)
 
     three-states : drop i (state s w live)
-        ≡ Both (joinOf s (here w i .phase - 4) (here w i .place)) ∷ Done (here w (i + 1) .rows) ∷ Done (here w (i + 2) .rows) ∷ drop (i + 3) (state s w live)
+        ≡ Both (joinOf s (here w i .phase - 4) (here w i .place)) ∷ Done (here w (i + 1) .rows) ∷ Done (here w (i + 2) .rows)
+        ∷ drop (i + 3) (state s w live)
     three-states =
         let e : i + 1 + 1 ≡ i + 2 = omega arith in
         let f : i + 2 + 1 ≡ i + 3 = omega arith in
@@ -295,7 +303,8 @@ module _ (s w : List ℕ) (live i : ℕ) (h : Stepping s w live i) where
     first-fits : (r : List Live) → All (Fit s) (Done joinedOf ∷ r) → length joinedOf ≤ 16
     first-fits r (also f a) = f .0
 
-    pub can-leave-both : Leaving w live i 2 joinedOf × ((4 ≤ here w i .phase) × (length (here w (i + 2) .rows) ≤ 16) × Ascending (here w (i + 2) .rows))
+    pub can-leave-both : Leaving w live i 2 joinedOf
+        × ((4 ≤ here w i .phase) × (length (here w (i + 2) .rows) ≤ 16) × Ascending (here w (i + 2) .rows))
     can-leave-both =
         let b = two-below in
         let f : (length (here w (i + 1) .rows) ≤ 16) × Ascending (here w (i + 1) .rows) =

@@ -43,7 +43,8 @@ module _ {X : Type 0} where
   build-flat (tdone x) r = refl
   build-flat (tone x t) r = ap (push (one x)) (build-flat t r)
   build-flat (ttwo x t u) r =
-      ap (push (two x)) (ap build (append-assoc (flat t) (flat u) r) ∙ build-flat t (flat u ++ r) ∙ ap (λ (ts : List (Tree X)). t ∷ ts) (build-flat u r))
+      ap (push (two x)) (ap build (append-assoc (flat t) (flat u) r) ∙ build-flat t (flat u ++ r)
+      ∙ ap (λ (ts : List (Tree X)). t ∷ ts) (build-flat u r))
 
   pub flat-inj : (t u : Tree X) → flat t ≡ flat u → t ≡ u
   flat-inj t u e =
@@ -99,7 +100,8 @@ module _ {X : Type 0} where
   count-flat (tone x t) r = rw (rd-one x t r, count-flat t r) (omega arith)
   count-flat (ttwo x t u) r = rw (append-assoc, rd-two x t u r, count-flat t (flat u ++ r), count-flat u r) (omega arith)
 
--- A step at the k-th ready position. `f` is what a step makes of the tree below a ready position, `g` what it makes of the list from that position's node on.
+-- A step at the k-th ready position: `f` is what it makes of the tree below that position,
+-- `g` what it makes of the list from that position's node on.
 abbrev pub updB : {A : Type 0} → Bool → ℕ → A → (ℕ → A) → A
 updB true zero a h = a
 updB true (suc k) a h = h k
@@ -112,8 +114,10 @@ module _ {X : Type 0} (g : List (Node X) → List (Node X)) where
 
   -- a node that is no later than the k-th ready one is passed over
   pub updL-skip : (b : Bool) (k : ℕ) (n : Node X) (ns : List (Node X)) → rd n ns ≡ b → updL (b2n b + k) (n ∷ ns) ≡ n ∷ updL k ns
-  updL-skip true k n ns e = ap (λ (b : Bool). updB b (1 + k) (g (n ∷ ns)) (λ j. n ∷ updL j ns)) e ∙ ap (λ (j : ℕ). updB true j (g (n ∷ ns)) (λ j. n ∷ updL j ns)) (one-add k)
-  updL-skip false k n ns e = ap (λ (b : Bool). updB b (0 + k) (g (n ∷ ns)) (λ j. n ∷ updL j ns)) e ∙ ap (λ (j : ℕ). n ∷ updL j ns) (zero-add k)
+  updL-skip true k n ns e = ap (λ (b : Bool). updB b (1 + k) (g (n ∷ ns)) (λ j. n ∷ updL j ns)) e
+      ∙ ap (λ (j : ℕ). updB true j (g (n ∷ ns)) (λ j. n ∷ updL j ns)) (one-add k)
+  updL-skip false k n ns e = ap (λ (b : Bool). updB b (0 + k) (g (n ∷ ns)) (λ j. n ∷ updL j ns)) e
+      ∙ ap (λ (j : ℕ). n ∷ updL j ns) (zero-add k)
 
   -- and so is a whole tree
   pub updL-pass : (t : Tree X) (k : ℕ) (r : List (Node X)) → updL (readyT t + k) (flat t ++ r) ≡ flat t ++ updL k r
@@ -126,10 +130,12 @@ module _ {X : Type 0} (g : List (Node X) → List (Node X)) where
   updL-pass (ttwo x t u) k r =
       let e : readyT (ttwo x t u) + k ≡ b2n (finT t && finT u) + (readyT t + (readyT u + k)) = omega arith in
       ap (λ (j : ℕ). updL j (two x ∷ ((flat t ++ flat u) ++ r))) e
-      ∙ ap (λ (l : List (Node X)). updL (b2n (finT t && finT u) + (readyT t + (readyT u + k))) (two x ∷ l)) (append-assoc (flat t) (flat u) r)
+      ∙ ap (λ (l : List (Node X)). updL (b2n (finT t && finT u) + (readyT t + (readyT u + k))) (two x ∷ l))
+      (append-assoc (flat t) (flat u) r)
       ∙ updL-skip (finT t && finT u) (readyT t + (readyT u + k)) (two x) (flat t ++ (flat u ++ r)) (rd-two x t u r)
       ∙ ap (λ (l : List (Node X)). two x ∷ l)
-      (updL-pass t (readyT u + k) (flat u ++ r) ∙ ap (λ (l : List (Node X)). flat t ++ l) (updL-pass u k r) ∙ sym (append-assoc (flat t) (flat u) (updL k r)))
+      (updL-pass t (readyT u + k) (flat u ++ r) ∙ ap (λ (l : List (Node X)). flat t ++ l) (updL-pass u k r)
+      ∙ sym (append-assoc (flat t) (flat u) (updL k r)))
 
   -- it is a change of the list at one index
   pub updL-at : (k : ℕ) (l : List (Node X)) → k < count l → updL k l ≡ take (nth k l) l ++ g (drop (nth k l) l)
@@ -137,7 +143,8 @@ module _ {X : Type 0} (g : List (Node X) → List (Node X)) where
   updL-at k (n ∷ ns) h = go (λ j h. updL-at j ns h) (rd n ns) k h
     where
       go : ((j : ℕ) → j < count ns → updL j ns ≡ take (nth j ns) ns ++ g (drop (nth j ns) ns)) → (b : Bool) (k : ℕ) → k < b2n b + count ns
-          → updB b k (g (n ∷ ns)) (λ j. n ∷ updL j ns) ≡ take (nthB b k (λ j. nth j ns)) (n ∷ ns) ++ g (drop (nthB b k (λ j. nth j ns)) (n ∷ ns))
+          → updB b k (g (n ∷ ns)) (λ j. n ∷ updL j ns)
+          ≡ take (nthB b k (λ j. nth j ns)) (n ∷ ns) ++ g (drop (nthB b k (λ j. nth j ns)) (n ∷ ns))
       go ih true zero h = refl
       go ih true (suc k) h = ap (λ (l : List (Node X)). n ∷ l) (ih k (omega arith))
       go ih false k h = ap (λ (l : List (Node X)). n ∷ l) (ih k (omega arith))
@@ -148,7 +155,8 @@ module _ {X : Type 0} where
   nth-ready k [] h = absurd (omega arith)
   nth-ready k (n ∷ ns) h = go (λ j h. nth-ready j ns h) (rd n ns) refl k h
     where
-      go : ((j : ℕ) → j < count ns → (nth j ns < length ns) × (rdL (drop (nth j ns) ns) ≡ true)) → (b : Bool) → rd n ns ≡ b → (k : ℕ) → k < b2n b + count ns
+      go : ((j : ℕ) → j < count ns → (nth j ns < length ns) × (rdL (drop (nth j ns) ns) ≡ true)) → (b : Bool) → rd n ns ≡ b → (k : ℕ)
+          → k < b2n b + count ns
           → (nthB b k (λ j. nth j ns) < suc (length ns)) × (rdL (drop (nthB b k (λ j. nth j ns)) (n ∷ ns)) ≡ true)
       go ih true e zero h = (omega arith, e)
       go ih true e (suc k) h = let p = ih k (omega arith) in (omega arith, p .1)
@@ -167,7 +175,8 @@ module _ {X : Type 0} (f : Tree X → Tree X) where
   updT k (trest x) = f (trest x)
   updT k (tdone x) = tdone x
   updT k (tone x t) = cond (finT t) (f (tone x t)) (tone x (updT k t))
-  updT k (ttwo x t u) = cond (finT t && finT u) (f (ttwo x t u)) (cond (ltb k (readyT t)) (ttwo x (updT k t) u) (ttwo x t (updT (k - readyT t) u)))
+  updT k (ttwo x t u) = cond (finT t && finT u) (f (ttwo x t u))
+      (cond (ltb k (readyT t)) (ttwo x (updT k t) u) (ttwo x t (updT (k - readyT t) u)))
 
 and-left : (a b : Bool) → (a && b) ≡ true → a ≡ true
 and-left true b e = refl
@@ -201,11 +210,13 @@ module _ {X : Type 0} (f : Tree X → Tree X) (g : List (Node X) → List (Node 
       go : ((s : List (Node X)) → k < readyT t → flat (updT f k t) ++ s ≡ updL g k (flat t ++ s))
           → ((j : ℕ) → j < readyT u → flat (updT f j u) ++ r ≡ updL g j (flat u ++ r))
           → (b : Bool) → (finT t && finT u) ≡ b → (c : Bool) → ltb k (readyT t) ≡ c → k < b2n b + (readyT t + readyT u)
-          → flat (cond b (f (ttwo x t u)) (cond c (ttwo x (updT f k t) u) (ttwo x t (updT f (k - readyT t) u)))) ++ r ≡ updL g k (two x ∷ (flat t ++ (flat u ++ r)))
+          → flat (cond b (f (ttwo x t u)) (cond c (ttwo x (updT f k t) u) (ttwo x t (updT f (k - readyT t) u)))) ++ r
+          ≡ updL g k (two x ∷ (flat t ++ (flat u ++ r)))
       go it iu true e c d h =
           same (ttwo x t u) r e
           ∙ ap (λ (l : List (Node X)). g (two x ∷ l)) (append-assoc (flat t) (flat u) r)
-          ∙ at-root k (two x) (flat t ++ (flat u ++ r)) (rd-two x t u r ∙ e) (omega (arith, fin-kids t (and-left _ _ e), fin-kids u (and-right (finT t) _ e)))
+          ∙ at-root k (two x) (flat t ++ (flat u ++ r)) (rd-two x t u r ∙ e)
+          (omega (arith, fin-kids t (and-left _ _ e), fin-kids u (and-right (finT t) _ e)))
       go it iu false e true d h =
           ap (λ (l : List (Node X)). two x ∷ l) (append-assoc (flat (updT f k t)) (flat u) r ∙ it (flat u ++ r) (ltb-true _ _ d))
           ∙ below-root k (two x) (flat t ++ (flat u ++ r)) (rd-two x t u r ∙ e)

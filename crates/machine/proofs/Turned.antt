@@ -15,7 +15,9 @@ module _ {A : Type 0} where
       sym (take-append-drop p H)
       ∙ ap (λ (l : List A). take p H ++ l)
       (sym (take-append-drop m (drop p H))
-      ∙ ap (λ (l : List A). take m (drop p H) ++ l) (drop-drop m p H ∙ sym (take-append-drop q (drop (p + m) H)) ∙ ap (λ (l : List A). take q (drop (p + m) H) ++ l) (drop-drop q (p + m) H)))
+      ∙ ap (λ (l : List A). take m (drop p H) ++ l)
+      (drop-drop m p H ∙ sym (take-append-drop q (drop (p + m) H))
+      ∙ ap (λ (l : List A). take q (drop (p + m) H) ++ l) (drop-drop q (p + m) H)))
 
   perm-mid : (A B C D : List A) → Perm (A ++ (B ++ (C ++ D))) (A ++ (C ++ (B ++ D)))
   perm-mid A B C D =
@@ -24,7 +26,8 @@ module _ {A : Type 0} where
 
   pub turned-perm : (p m q : ℕ) (H : List A) → Perm H (turned p m q H)
   unfolding turned
-  turned-perm p m q H = rw (← split-four p m q H) at (perm-mid (take p H) (take m (drop p H)) (take q (drop (p + m) H)) (drop (p + m + q) H))
+  turned-perm p m q H = rw (← split-four p m q H) at
+      (perm-mid (take p H) (take m (drop p H)) (take q (drop (p + m) H)) (drop (p + m + q) H))
 
   -- q opened at p of the first p + m
   pub turned-open : (p m q : ℕ) (H : List A) → p + m + q ≤ length H
@@ -41,7 +44,8 @@ module _ {A : Type 0} where
       let le : length (drop (p + m) H) ≡ length H - (p + m) = length-drop (p + m) H in
       let lq : length Q ≡ q = length-take-le q (drop (p + m) H) (omega arith) in
       let e : take (p + m) H ≡ P ++ M = take-add p m H in
-      let l : length (P ++ (Q ++ M)) ≡ p + m + q = length-append P (Q ++ M) ∙ ap (λ (k : ℕ). length P + k) (length-append Q M) ∙ omega arith in
+      let l : length (P ++ (Q ++ M)) ≡ p + m + q = length-append P (Q ++ M) ∙ ap (λ (k : ℕ). length P + k) (length-append Q M)
+      ∙ omega arith in
       ap (take (p + m + q)) (ap (λ (b : List A). P ++ b) (sym (append-assoc Q M D)) ∙ sym (append-assoc P (Q ++ M) D))
       ∙ take-at (P ++ (Q ++ M)) D (p + m + q) l
       ∙ ap (λ (b : List A). b ++ (Q ++ M)) (sym (ap (take p) e ∙ take-at P M p lp))
@@ -81,7 +85,8 @@ module _ {A : Type 0} where
   take-two (suc k) (x ∷ H) d h = simp suc-add (take-two k H d (omega arith))
 
   -- element by element, as the code does it
-  open-one : (H : List A) (p m : ℕ) (f : A) → p + 1 ≤ length H → set (moved H p (p + 1) m) p f ≡ take p H ++ ((f ∷ []) ++ (take m (drop p H) ++ drop (p + 1 + m) H))
+  open-one : (H : List A) (p m : ℕ) (f : A) → p + 1 ≤ length H
+      → set (moved H p (p + 1) m) p f ≡ take p H ++ ((f ∷ []) ++ (take m (drop p H) ++ drop (p + 1 + m) H))
   open-one [] p m f h = absurd (omega arith)
   open-one (x ∷ H) zero m f h = refl
   open-one (x ∷ H) (suc p) m f h = simp suc-add (ap (λ (l : List A). x ∷ l) (open-one H p m f (omega arith)))
@@ -118,14 +123,17 @@ module _ {A : Type 0} where
         let e : p + m ≡ length P + 0 = omega arith in
         let D : List A = drop (p + 1 + m) H in
         let s : drop (p + m) H ≡ take 1 (drop (p + m) H) ++ D =
-        sym (take-append-drop 1 (drop (p + m) H)) ∙ ap (λ (l : List A). take 1 (drop (p + m) H) ++ l) (drop-drop 1 (p + m) H ∙ ap (λ (k : ℕ). drop k H) (let z : p + m + 1 ≡ p + 1 + m = omega arith in z)) in
+        sym (take-append-drop 1 (drop (p + m) H))
+        ∙ ap (λ (l : List A). take 1 (drop (p + m) H) ++ l)
+        (drop-drop 1 (p + m) H ∙ ap (λ (k : ℕ). drop k H) (let z : p + m + 1 ≡ p + 1 + m = omega arith in z)) in
         ap (λ (l : List A). set (P ++ l) (p + m) (getD H p d)) (s ∙ ap (λ (l : List A). l ++ D) (take-one (p + m) H d (omega arith)))
         ∙ ap (λ (k : ℕ). set (P ++ (getD H (p + m) d ∷ D)) k (getD H p d)) e
         ∙ set-append-add P (getD H (p + m) d ∷ D) 0 (getD H p d)
         ∙ append-assoc (take p H) (take m (drop (p + 1) H)) (getD H p d ∷ D)
         ∙ rw (take-one p H d (omega arith))
 
-    pub closes-two : p + 2 + m ≤ length H → set (set (moved H (p + 2) p m) (p + m) (getD H p d)) (p + m + 1) (getD H (p + 1) d) ≡ turned p 2 m H
+    pub closes-two : p + 2 + m ≤ length H → set (set (moved H (p + 2) p m) (p + m) (getD H p d)) (p + m + 1) (getD H (p + 1) d)
+        ≡ turned p 2 m H
     unfolding turned
     closes-two h =
         let P : List A = take p H ++ take m (drop (p + 2) H) in
@@ -142,7 +150,8 @@ module _ {A : Type 0} where
         let f : A = getD H p d in
         let g : A = getD H (p + 1) d in
         let s : drop (p + m) H ≡ x ∷ y ∷ D =
-        sym (take-append-drop 2 (drop (p + m) H)) ∙ ap (λ (l : List A). take 2 (drop (p + m) H) ++ l) (drop-drop 2 (p + m) H ∙ ap (λ (k : ℕ). drop k H) z)
+        sym (take-append-drop 2 (drop (p + m) H))
+        ∙ ap (λ (l : List A). take 2 (drop (p + m) H) ++ l) (drop-drop 2 (p + m) H ∙ ap (λ (k : ℕ). drop k H) z)
         ∙ ap (λ (l : List A). l ++ D) (take-two (p + m) H d (omega arith)) in
         ap (λ (l : List A). set (set (P ++ l) (p + m) f) (p + m + 1) g) s
         ∙ ap (λ (k : ℕ). set (set (P ++ (x ∷ y ∷ D)) k f) (p + m + 1) g) e₀

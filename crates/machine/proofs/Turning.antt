@@ -14,7 +14,8 @@ pub turns-by : {s w v : List ℕ} {live r i k : ℕ} {pos : List Pos} {new : Lis
     → Turns s w v live r i k new
 turns-by {pos = pos} b e = record { pos = pos; becomes = b; means = e }
 
-pub turns-as : {s w v : List ℕ} {live r i k : ℕ} {new new′ : List Live} → Turns s w v live r i k new → new ≡ new′ → Turns s w v live r i k new′
+pub turns-as : {s w v : List ℕ} {live r i k : ℕ} {new new′ : List Live} → Turns s w v live r i k new → new ≡ new′
+    → Turns s w v live r i k new′
 turns-as t e = record { pos = t .pos; becomes = t .becomes; means = t .means ∙ e }
 
 -- the state, in the rules' terms
@@ -42,7 +43,8 @@ turns-in {s} {c = c} {old} {new} m j e h t z =
     let O : List Pos = t .pos in
     let l : length O ≡ length old = sym (length-map O f) ∙ ap length (t .means) in
     turns-by (becomes-in m j e (omega arith) (t .becomes) (z .becomes))
-    (map-append f (take m O) (z .pos ++ drop (m + c) O) ∙ ap (λ (q : List Live). map f (take m O) ++ q) (map-append f (z .pos) (drop (m + c) O))
+    (map-append f (take m O) (z .pos ++ drop (m + c) O)
+    ∙ ap (λ (q : List Live). map f (take m O) ++ q) (map-append f (z .pos) (drop (m + c) O))
     ∙ ap (λ (q : List Live). q ++ (map f (z .pos) ++ map f (drop (m + c) O))) (map-take f m O ∙ ap (take m) (t .means))
     ∙ ap (λ (q : List Live). take m old ++ (q ++ map f (drop (m + c) O))) (z .means)
     ∙ ap (λ (q : List Live). take m old ++ (new ++ q)) (map-drop f (m + c) O ∙ ap (drop (m + c)) (t .means)))

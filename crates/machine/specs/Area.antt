@@ -93,7 +93,8 @@ pub record Parts (w v : List ℕ) (live i : ℕ) : Type 0 where
   pub top : Pos
   pub other : Pos
   pub becomes : Becomes w v live (live + 2) i 1
-      (marked top (here w i .place) 5 (here w i .mask) ∷ marked (given (here w i) (take 1 (here w i .rows))) (here w i .place) 0 (here w i .mask)
+      (marked top (here w i .place) 5 (here w i .mask)
+      ∷ marked (given (here w i) (take 1 (here w i .rows))) (here w i .place) 0 (here w i .mask)
       ∷ marked (given other (drop 1 (here w i .rows))) (here w i .place) 0 (here w i .mask) ∷ [])
 
 -- every header of v has a slot of its own; past the area, and in length, v is as w

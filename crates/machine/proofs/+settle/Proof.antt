@@ -25,7 +25,18 @@ abbrev settle-below : ℕ → In 2 settle-kinds.ps
 settle-below t = and 2 settle-kinds.ps (falls 2 settle-kinds.ps _<_ μ-settle t) settle.Pre
 
 abbrev calls : ℕ → settle-lts.Claims
-calls t = (spot-at-reads.Asked, spot-at-reads.Learnt, byte-at-reads.Asked, byte-at-reads.Learnt, split-seq-reads.Asked, split-seq-reads.Learnt, settle-below t, settle.Post, mark-reads.Asked, mark-reads.Learnt)
+calls t = (
+  spot-at-reads.Asked,
+  spot-at-reads.Learnt,
+  byte-at-reads.Asked,
+  byte-at-reads.Learnt,
+  split-seq-reads.Asked,
+  split-seq-reads.Learnt,
+  settle-below t,
+  settle.Post,
+  mark-reads.Asked,
+  mark-reads.Learnt,
+)
 
 settle-spot-at-requires : (t : ℕ) → settle-lts.Need-spot-at-requires (calls t) (settle-at t) settle.Post
 settle-spot-at-requires t c κs = search needs
@@ -44,8 +55,10 @@ settle-split-seq-requires t c κs =
     let spot-at = c .before .before .before .before .spot-at in
     let if1 = c .before .if1 in
     let h = s .pre .1 in
-    let l = seq-fits (now a.book) (now a.work) a.live a.i h (byte-at .result) (spot-at .result .place) (byte-at .ensures) (spot-at .ensures .0) (if1 .taken) in
-    let p = seq-places (now a.book) (now a.work) a.live a.i h (byte-at .result) (spot-at .result .place) (byte-at .ensures) (spot-at .ensures .0) (if1 .taken) in
+    let l = seq-fits (now a.book) (now a.work) a.live a.i h (byte-at .result) (spot-at .result .place) (byte-at .ensures)
+    (spot-at .ensures .0) (if1 .taken) in
+    let p = seq-places (now a.book) (now a.work) a.live a.i h (byte-at .result) (spot-at .result .place) (byte-at .ensures)
+    (spot-at .ensures .0) (if1 .taken) in
     ((h .there, l, h .area, h .sound), p)
 
 settle-add-settle : (t : ℕ) → settle-lts.Need-add-settle (calls t) (settle-at t) settle.Post
@@ -63,7 +76,8 @@ settle-settle-requires t c κs =
     let if1 = c .before .before .before .before .before .if1 in
     let split-seq = c .before .before .before .split-seq in
     let h = s .pre .1 in
-    let l = seq-fits (now a.book) (now a.work) a.live a.i h (byte-at .result) (spot-at .result .place) (byte-at .ensures) (spot-at .ensures .0) (if1 .taken) in (
+    let l = seq-fits (now a.book) (now a.work) a.live a.i h (byte-at .result) (spot-at .result .place) (byte-at .ensures)
+    (spot-at .ensures .0) (if1 .taken) in (
       omega (arith, s .pre .0),
       seq-next (now a.book) (now a.work) a.live a.i h (byte-at .result) (spot-at .result .place) (byte-at .ensures) (spot-at .ensures .0)
           (if1 .taken) (split-seq .last .1 .0) (split-seq .ensures),
@@ -81,7 +95,8 @@ settle-returns t c =
     let if1 = c .before .before .before .before .before .before .before .before .if1 in
     let split-seq = c .before .before .before .before .before .before .split-seq in
     let settle = c .before .before .settle in
-    placed-seq (now a.book) (now a.work) a.live a.i (s .pre .1) (byte-at .result) (spot-at .result .place) (byte-at .ensures) (spot-at .ensures .0)
+    placed-seq (now a.book) (now a.work) a.live a.i (s .pre .1) (byte-at .result) (spot-at .result .place) (byte-at .ensures)
+    (spot-at .ensures .0)
     (if1 .taken) (split-seq .last .1 .0) (split-seq .ensures) (settle .last .1 .0) (settle .result) (settle .ensures)
 
 settle-mark-requires : (t : ℕ) → settle-lts.Need-mark-requires (calls t) (settle-at t) settle.Post
@@ -98,7 +113,8 @@ settle-returns-2 t c =
     let byte-at = c .before .before .before .before .before .before .byte-at in
     let spot-at = c .before .before .before .before .before .before .before .before .spot-at in
     let if2 = c .before .before .before .before .if2 in
-    placed-id (now a.book) (now a.work) a.live a.i (s .pre .1) (mark .last .0) (byte-at .result) (spot-at .result .place) (spot-at .result .mask)
+    placed-id (now a.book) (now a.work) a.live a.i (s .pre .1) (mark .last .0) (byte-at .result) (spot-at .result .place)
+    (spot-at .result .mask)
     (byte-at .ensures) (spot-at .ensures .0) (spot-at .ensures .1) (if2 .taken) (mark .ensures)
 
 settle-same-length-3 : (t : ℕ) → settle-lts.Need-same-length-3 (calls t) (settle-at t) settle.Post

@@ -23,7 +23,8 @@ step-counted-requires c κs =
     let a = s .args in
     let if1 = c .before .before .before .if1 in
     let pick = c .before .nth-ready in (
-      can-step (now a.book) (now a.work) (a.c .live) (a.c .ready) a.b (s .pre) (pick .result) (λ e. omega (arith, if1 .left)) (pick .ensures),
+      can-step (now a.book) (now a.work) (a.c .live) (a.c .ready) a.b (s .pre) (pick .result) (λ e. omega (arith, if1 .left))
+          (pick .ensures),
       counted-now (now a.book) (now a.work) (a.c .live) (a.c .ready) a.b (s .pre),
     )
 

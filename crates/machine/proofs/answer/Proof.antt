@@ -20,7 +20,8 @@ get-set-requires c κs =
     let a = s .args in
     let ready-count = c .before .ready-count in
     let if1 = c .if1 in
-    can-read (now a.book) (s .pre .1 .0) (now a.work) (a.c .live) (a.c .steps) (start (now a.book) (now a.packet)) (now a.schedule) (s .pre .1 .1)
+    can-read (now a.book) (s .pre .1 .0) (now a.work) (a.c .live) (a.c .steps) (start (now a.book) (now a.packet)) (now a.schedule)
+    (s .pre .1 .1)
     (s .pre .0 .0) (ready-count .result) (ready-count .ensures) (if1 .taken)
 
 byte-at-requires : tie.Need-byte-at-requires
@@ -46,11 +47,16 @@ returns c =
     let get-set = c .before .before .before .before .before .get-set in
     let byte-at = c .before .before .before .before .byte-at in
     let emit = c .before .before .emit in (
-      finished-answer (now a.book) (s .pre .1 .0) (now a.work) (a.c .live) (a.c .steps) (start (now a.book) (now a.packet)) (now a.schedule) (s .pre .1 .1)
-          (s .pre .0 .0) (ready-count .result) (ready-count .ensures) (if1 .taken) (get-set .result) (here (now a.work) 0 .mask) (get-set .ensures),
-      finished-result (now a.book) (s .pre .1 .0) (now a.work) (a.c .live) (a.c .steps) (start (now a.book) (now a.packet)) (now a.schedule) (s .pre .1 .1)
-          (s .pre .0 .0) (ready-count .result) (ready-count .ensures) (if1 .taken) (get-set .result) (here (now a.work) 0 .mask) (get-set .ensures)
-          (byte-at .result) (fieldsOf (now a.book)) (emit .result) (now a.result) (emit .last .1 .1 .0) (byte-at .ensures) (s .pre .0 .1) (emit .ensures),
+      finished-answer (now a.book) (s .pre .1 .0) (now a.work) (a.c .live) (a.c .steps) (start (now a.book) (now a.packet))
+          (now a.schedule) (s .pre .1 .1)
+          (s .pre .0 .0) (ready-count .result) (ready-count .ensures) (if1 .taken) (get-set .result) (here (now a.work) 0 .mask)
+          (get-set .ensures),
+      finished-result (now a.book) (s .pre .1 .0) (now a.work) (a.c .live) (a.c .steps) (start (now a.book) (now a.packet))
+          (now a.schedule) (s .pre .1 .1)
+          (s .pre .0 .0) (ready-count .result) (ready-count .ensures) (if1 .taken) (get-set .result) (here (now a.work) 0 .mask)
+          (get-set .ensures)
+          (byte-at .result) (fieldsOf (now a.book)) (emit .result) (now a.result) (emit .last .1 .1 .0) (byte-at .ensures) (s .pre .0 .1)
+          (emit .ensures),
     )
 
 returns-2 : tie.Need-returns-2
@@ -59,7 +65,8 @@ returns-2 c =
     let a = s .args in
     let ready-count = c .before .ready-count in
     let if1 = c .if1 in (
-      running-answer (now a.book) (s .pre .1 .0) (now a.work) (a.c .live) (a.c .steps) (start (now a.book) (now a.packet)) (now a.schedule) (s .pre .1 .1)
+      running-answer (now a.book) (s .pre .1 .0) (now a.work) (a.c .live) (a.c .steps) (start (now a.book) (now a.packet)) (now a.schedule)
+          (s .pre .1 .1)
           (s .pre .0 .0) (ready-count .result) (ready-count .ensures) (if1 .left),
       refl,
     )

@@ -1,16 +1,9 @@
-use mathlib.Core.List.{[]}
-use mathlib.Core.Path.{_≡_, refl, sym, ap, _∙_}
 use native.Mathlib.Omega.{arith}
 use denote.Ref.{now}
-use Rattle.machine.proofs.Acts.{opened-one, opened-two, closed-one, closed-two, marks-one}
+use Rattle.machine.proofs.Acts.{closed-two}
 use borrow.Author.Needs.{needs}
 use Rattle.machine.proofs.close_two.Statement.{statement}
 use Rattle.machine.proofs.close_two.Tie as tie
-use Rattle.machine.proofs.close_two.Reads as reads
-use Rattle.machine.proofs.close_two.Lts as lts
-use Rattle.machine.proofs.head.Reads as head-reads
-use Rattle.machine.proofs.move_down.Reads as move-down-reads
-use Rattle.machine.proofs.put_head.Reads as put-head-reads
 
 head-requires : tie.Need-head-requires
 head-requires c κs = search needs
@@ -59,9 +52,16 @@ same-length c = search needs
 
 returns : tie.Need-returns
 returns c =
-    let s = c .before .before .before .before .before .before .before .before .before .before .before .before .before .before .before .before .before in
+    let s = c .before .before .before .before .before .before .before .before .before .before .before .before .before .before
+    .before .before .before in
     let a = s .args in
-    closed-two (now a.work) (c .before .before .before .before .before .before .before .before .before .before .move-down .last .0) (c .before .before .before .before .before .before .put-head .last .0) (c .before .before .put-head2 .last .0) a.live a.p (c .before .before .before .before .before .before .before .before .before .before .before .before .before .before .head .result) (c .before .before .before .before .before .before .before .before .before .before .before .before .head2 .result) (omega arith) (s .pre .3) (omega arith) (omega arith) (c .before .before .before .before .before .before .before .before .before .before .before .before .before .before .head .ensures) (c .before .before .before .before .before .before .before .before .before .before .before .before .head2 .ensures) (c .before .before .before .before .before .before .before .before .before .before .move-down .ensures) (c .before .before .before .before .before .before .put-head .ensures) (c .before .before .put-head2 .ensures)
+    let first = c .before .before .before .before .before .before .before .before .before .before .before .before .before .before .head in
+    let second = c .before .before .before .before .before .before .before .before .before .before .before .before .head2 in
+    let moved = c .before .before .before .before .before .before .before .before .before .before .move-down in
+    let put = c .before .before .before .before .before .before .put-head in
+    let put2 = c .before .before .put-head2 in
+    closed-two (now a.work) (moved .last .0) (put .last .0) (put2 .last .0) a.live a.p (first .result) (second .result)
+    (omega arith) (s .pre .3) (omega arith) (omega arith) (first .ensures) (second .ensures) (moved .ensures) (put .ensures) (put2 .ensures)
 
 pub close-two-spec : {M : Type 1} → statement M
 close-two-spec =

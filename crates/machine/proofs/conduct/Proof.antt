@@ -38,12 +38,14 @@ same-length-2 c = search needs
 
 returns : tie.Need-returns
 returns c =
-    let s = c .before .before .before .before .before .before .before .before .before .before .before .before .before .before .before .before .before .before .before .before .before .before in
+    let s = c .before .before .before .before .before .before .before .before .before .before .before .before .before .before .before
+    .before .before .before .before .before .before .before in
     let a = s .args in
     let answer = c .before .before .before .before .before .before .answer in
     let play = c .before .before .before .before .before .before .before .before .before .before .before .play in
     let clear = c .before .before .clear in
-    let set-up = c .before .before .before .before .before .before .before .before .before .before .before .before .before .before .before .set-up in (
+    let set-up = c .before .before .before .before .before .before .before .before .before .before .before .before .before .before
+    .before .set-up in (
       answer .ensures .0,
       answer .ensures .1,
       cleared (now a.work) (play .last .1 .1 .1 .0) (clear .last .0)

@@ -28,7 +28,8 @@ settle-requires c κs =
     let byte-at = c .before .before .byte-at in
     let spot-at = c .before .before .before .before .spot-at in
     let if1 = c .before .if1 in
-    placed-there (now a.book) (now a.work) a.live a.i (s .pre) (inl (sym (byte-at .ensures ∙ ap (λ x. getD (now a.book) x 0) (spot-at .ensures .0)) ∙ if1 .taken))
+    placed-there (now a.book) (now a.work) a.live a.i (s .pre)
+    (inl (sym (byte-at .ensures ∙ ap (λ x. getD (now a.book) x 0) (spot-at .ensures .0)) ∙ if1 .taken))
 
 same-length : tie.Need-same-length
 same-length c = search needs
@@ -97,7 +98,8 @@ settle-requires-2 c κs =
     let byte-at = c .before .before .before .before .before .before .byte-at in
     let spot-at = c .before .before .before .before .before .before .before .before .spot-at in
     let if5 = c .before .if5 in
-    placed-there (now a.book) (now a.work) a.live a.i (s .pre) (inr (sym (byte-at .ensures ∙ ap (λ x. getD (now a.book) x 0) (spot-at .ensures .0)) ∙ if5 .taken))
+    placed-there (now a.book) (now a.work) a.live a.i (s .pre)
+    (inr (sym (byte-at .ensures ∙ ap (λ x. getD (now a.book) x 0) (spot-at .ensures .0)) ∙ if5 .taken))
 
 same-length-5 : tie.Need-same-length-5
 same-length-5 c = search needs

@@ -39,7 +39,8 @@ returns-2 c =
     let count-at = c .before .before .before .before .before .before .before .before .count-at in
     let spot-at = c .before .before .before .before .spot-at in
     let if2 = c .before .before .before .before .before .before .if2 in
-    none-entered (now a.book) (now a.work) a.live a.i (s .pre) (mark .last .0) (count-at .result) (spot-at .result .place) (spot-at .result .mask)
+    none-entered (now a.book) (now a.work) a.live a.i (s .pre) (mark .last .0) (count-at .result) (spot-at .result .place)
+    (spot-at .result .mask)
     (count-at .ensures .1) (if2 .taken) (mark .ensures)
 
 split-packets-requires : tie.Need-split-packets-requires
@@ -72,7 +73,8 @@ returns-3 c =
     let count-at = c .before .before .before .before .before .before .count-at in
     let if1 = c .before .before .before .before .before .if1 in
     let if2 = c .before .before .before .before .if2 in
-    more-entered (now a.book) (now a.work) a.live a.i (s .pre) (split-packets .last .0) (omega (arith, count-at .ensures .1, if1 .left, if2 .left))
+    more-entered (now a.book) (now a.work) a.live a.i (s .pre) (split-packets .last .0)
+    (omega (arith, count-at .ensures .1, if1 .left, if2 .left))
     (split-packets .ensures)
 
 pub enter-beside-spec : {M : Type 1} → statement M

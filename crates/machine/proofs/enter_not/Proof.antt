@@ -36,7 +36,8 @@ returns c =
     let a = s .args in
     let split-not = c .before .before .before .before .before .before .split-not in
     let settle = c .before .before .settle in
-    not-entered (now a.book) (now a.work) a.live a.i (s .pre) (split-not .last .0) (split-not .ensures) (settle .last .1 .0) (settle .result)
+    not-entered (now a.book) (now a.work) a.live a.i (s .pre) (split-not .last .0) (split-not .ensures) (settle .last .1 .0)
+    (settle .result)
     (settle .ensures)
 
 pub enter-not-spec : {M : Type 1} → statement M

@@ -10,7 +10,15 @@ split-sides-requires c κs =
     let s = c .before .before .before in
     let a = s .args in
     let h = s .pre .0 in (
-      (h .standing .there, side-fits (now a.book) (now a.work) a.live a.i h (s .pre .1), h .standing .area, h .standing .sound, h .slim, h .up),
+      (
+        h .standing .there,
+        side-fits (now a.book) (now a.work) a.live a.i h
+            (s .pre .1),
+        h .standing .area,
+        h .standing .sound,
+        h .slim,
+        h .up,
+      ),
       side-places (now a.book) (now a.work) a.live a.i h,
     )
 
@@ -33,7 +41,8 @@ returns c =
     let a = s .args in
     let split-sides = c .before .before .before .before .before .before .split-sides in
     let settle-two = c .before .before .settle-two in
-    side-entered (now a.book) (now a.work) a.live a.i (s .pre .0) (split-sides .last .1 .0) (s .pre .1) (split-sides .ensures) (settle-two .last .1 .0)
+    side-entered (now a.book) (now a.work) a.live a.i (s .pre .0) (split-sides .last .1 .0) (s .pre .1) (split-sides .ensures)
+    (settle-two .last .1 .0)
     (settle-two .result) (settle-two .ensures)
 
 pub enter-sides-spec : {M : Type 1} → statement M

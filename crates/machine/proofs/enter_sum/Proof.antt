@@ -33,7 +33,8 @@ returns c =
     let a = s .args in
     let split-sum = c .before .before .before .before .before .before .split-sum in
     let settle-two = c .before .before .settle-two in
-    sum-entered (now a.book) (now a.work) a.live a.i (s .pre) (split-sum .last .1 .0) (split-sum .ensures) (settle-two .last .1 .0) (settle-two .result)
+    sum-entered (now a.book) (now a.work) a.live a.i (s .pre) (split-sum .last .1 .0) (split-sum .ensures) (settle-two .last .1 .0)
+    (settle-two .result)
     (settle-two .ensures)
 
 pub enter-sum-spec : {M : Type 1} → statement M

@@ -48,7 +48,8 @@ settle-requires c κs =
     let body-start = c .before .before .before .before .before .body-start in
     let e : byte-at .result ≡ getD (now a.book) (here (now a.work) a.i .place + 1) 0 =
     byte-at .ensures ∙ ap (λ x. getD (now a.book) (x + 1) 0) (spot-at .ensures .0) in
-    table-next (now a.book) (now a.work) a.live a.i (byte-at .result) (s .pre) e (mark .last .0) (body-start .result) (spot-at .result .mask)
+    table-next (now a.book) (now a.work) a.live a.i (byte-at .result) (s .pre) e (mark .last .0) (body-start .result)
+    (spot-at .result .mask)
     (body-start .ensures .0) (spot-at .ensures .1) (mark .ensures)
 
 same-length : tie.Need-same-length
@@ -65,7 +66,8 @@ returns c =
     let settle = c .before .before .settle in
     let e : byte-at .result ≡ getD (now a.book) (here (now a.work) a.i .place + 1) 0 =
     byte-at .ensures ∙ ap (λ x. getD (now a.book) (x + 1) 0) (spot-at .ensures .0) in
-    table-entered (now a.book) (now a.work) a.live a.i (byte-at .result) (s .pre) e (mark .last .0) (body-start .result) (spot-at .result .mask)
+    table-entered (now a.book) (now a.work) a.live a.i (byte-at .result) (s .pre) e (mark .last .0) (body-start .result)
+    (spot-at .result .mask)
     (body-start .ensures .0) (spot-at .ensures .1) (mark .ensures) (settle .last .1 .0) (settle .result) (settle .ensures)
 
 pub enter-table-spec : {M : Type 1} → statement M

@@ -30,7 +30,8 @@ returns c =
     let put-set = c .before .before .before .before .before .before .put-set in
     let mark = c .before .before .mark in
     let spot-at = c .before .before .before .before .before .before .before .before .spot-at in
-    has-finished (now a.work) (put-set .last .0) (mark .last .0) a.i (spot-at .result .place) (spot-at .result .mask) (rows a.s) (omega arith)
+    has-finished (now a.work) (put-set .last .0) (mark .last .0) a.i (spot-at .result .place) (spot-at .result .mask) (rows a.s)
+    (omega arith)
     (spot-at .ensures .0) (spot-at .ensures .1) (put-set .ensures) (mark .ensures)
 
 pub finish-spec : {M : Type 1} → statement M

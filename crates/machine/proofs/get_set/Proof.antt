@@ -42,7 +42,9 @@ returns : tie.Need-returns
 returns c =
     let s = c .before .before .before .before .before in
     let a = s .args in
-    got-set (now a.work) (c .load-front .result) a.i (c .before .before .before .slot-at .result) (c .before .before .count-at .result) (omega arith) (omega arith) (s .pre .2) (omega arith) (s .pre .4) (c .before .before .before .slot-at .ensures .0) (c .before .before .count-at .ensures .0) (c .load-front .ensures)
+    got-set (now a.work) (c .load-front .result) a.i (c .before .before .before .slot-at .result) (c .before .before .count-at .result)
+    (omega arith) (omega arith) (s .pre .2) (omega arith) (s .pre .4) (c .before .before .before .slot-at .ensures .0)
+    (c .before .before .count-at .ensures .0) (c .load-front .ensures)
 
 pub get-set-spec : {M : Type 1} → statement M
 get-set-spec =

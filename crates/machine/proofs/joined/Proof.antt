@@ -14,7 +14,8 @@ returns c =
     let s = c .before .before .before .before in
     let a = s .args in
     let union = c .before .union in
-    let i = joins-low (now a.book) a.phase a.at (a.a .mask) (rows a.a) (rows a.b) (union .result) (s .pre .1) (omega arith) (s .pre .4) (union .ensures) in
+    let i = joins-low (now a.book) a.phase a.at (a.a .mask) (rows a.a) (rows a.b) (union .result) (s .pre .1) (omega arith) (s .pre .4)
+    (union .ensures) in
     (i .whole, i .same)
 
 add-byte-at : tie.Need-add-byte-at

@@ -36,7 +36,8 @@ returns c =
     let a = s .args in
     let put-head = c .before .before .put-head in
     let head = c .before .before .before .before .head in
-    has-first (now a.work) (put-head .last .0) a.i (head .result) (omega arith) (s .pre .2) (head .ensures) (omega arith) (put-head .ensures)
+    has-first (now a.work) (put-head .last .0) a.i (head .result) (omega arith) (s .pre .2) (head .ensures) (omega arith)
+    (put-head .ensures)
 
 pub keep-first-spec : {M : Type 1} → statement M
 keep-first-spec =

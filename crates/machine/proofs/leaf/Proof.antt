@@ -50,7 +50,8 @@ returns-2 c =
     let byte-at = c .before .before .before .byte-at in
     let word-at = c .before .before .word-at in
     let if2 = c .before .if2 in
-    is-as (test .ensures) (out-test (now a.book) a.at a.code (s .pre .1) (rows a.s) (byte-at .result) (word-at .result) (if2 .taken) (byte-at .ensures) (word-at .ensures))
+    is-as (test .ensures) (out-test (now a.book) a.at a.code (s .pre .1) (rows a.s) (byte-at .result) (word-at .result) (if2 .taken)
+    (byte-at .ensures) (word-at .ensures))
 
 set-field-requires : tie.Need-set-field-requires
 set-field-requires c κs = search needs

@@ -38,7 +38,8 @@ joined-requires c κs =
       omega (arith, phase-at .ensures, s .pre .1 .0),
       get-set .ensures .whole,
       get-set2 .ensures .whole,
-      both-slim (now a.book) (now a.work) a.live a.i (spot-at .result .place) (phase-at .result) (get-set .result) (get-set2 .result) (s .pre .0)
+      both-slim (now a.book) (now a.work) a.live a.i (spot-at .result .place) (phase-at .result) (get-set .result) (get-set2 .result)
+          (s .pre .0)
           (spot-at .ensures .0) (phase-at .ensures) (get-set .ensures) (get-set2 .ensures),
     )
 
@@ -49,17 +50,20 @@ finish-requires c κs =
 
 add-close-two : tie.Need-add-close-two
 add-close-two c =
-    let s = c .before .before .before .before .before .before .before .before .before .before .before .before .before .before .before .before .before in
+    let s = c .before .before .before .before .before .before .before .before .before .before .before .before .before .before .before
+    .before .before in
     let p = s .pre in search needs
 
 close-two-requires : tie.Need-close-two-requires
 close-two-requires c κs =
-    let s = c .before .before .before .before .before .before .before .before .before .before .before .before .before .before .before .before .before in
+    let s = c .before .before .before .before .before .before .before .before .before .before .before .before .before .before .before
+    .before .before in
     let p = s .pre in search needs
 
 sub-result : tie.Need-sub-result
 sub-result c =
-    let s = c .before .before .before .before .before .before .before .before .before .before .before .before .before .before .before .before .before .before .before .before in
+    let s = c .before .before .before .before .before .before .before .before .before .before .before .before .before .before .before
+    .before .before .before .before .before in
     let p = s .pre in search needs
 
 same-length : tie.Need-same-length
@@ -67,16 +71,20 @@ same-length c = search needs
 
 returns : tie.Need-returns
 returns c =
-    let s = c .before .before .before .before .before .before .before .before .before .before .before .before .before .before .before .before .before .before .before .before in
+    let s = c .before .before .before .before .before .before .before .before .before .before .before .before .before .before .before
+    .before .before .before .before .before in
     let a = s .args in
     let spot-at = c .before .before .before .before .before .before .before .before .before .before .before .before .spot-at in
     let phase-at = c .before .before .before .before .before .before .before .before .before .before .phase-at in
-    let get-set = c .before .before .before .before .before .before .before .before .before .before .before .before .before .before .before .before .get-set in
-    let get-set2 = c .before .before .before .before .before .before .before .before .before .before .before .before .before .before .get-set2 in
+    let get-set = c .before .before .before .before .before .before .before .before .before .before .before .before .before .before .before
+    .before .get-set in
+    let get-set2 = c .before .before .before .before .before .before .before .before .before .before .before .before .before
+    .before .get-set2 in
     let finish = c .before .before .before .before .before .before .finish in
     let close-two = c .before .before .close-two in
     let joined = c .before .before .before .before .before .before .before .before .joined in
-    both-left (now a.book) (now a.work) a.live a.i (spot-at .result .place) (phase-at .result) (get-set .result) (get-set2 .result) (s .pre .0)
+    both-left (now a.book) (now a.work) a.live a.i (spot-at .result .place) (phase-at .result) (get-set .result) (get-set2 .result)
+    (s .pre .0)
     (spot-at .ensures .0) (phase-at .ensures) (get-set .ensures) (get-set2 .ensures) (finish .last .0) (close-two .last .0) (joined .result)
     (joined .ensures .1) (finish .ensures) (close-two .ensures)
 

@@ -41,7 +41,8 @@ returns c =
     let get-set = c .before .before .before .before .before .before .before .before .before .before .before .get-set in
     let get-set2 = c .before .before .before .before .before .before .before .before .before .get-set2 in
     let difference = c .before .before .before .before .before .before .before .before .difference in
-    not-left (now a.work) (finish .last .0) (close-one .last .0) a.live a.i (get-set .result) (get-set2 .result) (difference .result) (s .pre .0)
+    not-left (now a.work) (finish .last .0) (close-one .last .0) a.live a.i (get-set .result) (get-set2 .result) (difference .result)
+    (s .pre .0)
     (get-set .ensures) (get-set2 .ensures) (difference .ensures) (finish .ensures) (close-one .ensures)
 
 pub leave-not-spec : {M : Type 1} → statement M

@@ -32,7 +32,8 @@ returns c =
     let head = c .before .before .before .before .head in
     let put-head = c .before .before .put-head in
     let m : a.mask < 256 = search needs in
-    marks-one (now a.work) a.i (head .result) (omega arith) (omega arith) (s .pre .2) (head .ensures) (put-head .last .0) a.place a.phase a.mask m
+    marks-one (now a.work) a.i (head .result) (omega arith) (omega arith) (s .pre .2) (head .ensures)
+    (put-head .last .0) a.place a.phase a.mask m
     (put-head .ensures)
 
 pub mark-spec : {M : Type 1} → statement M

@@ -54,7 +54,12 @@ loop-less c = omega arith
 
 -- src/lib.rt:100:5
 loop-again : tie.Need-loop-again Inv-loop μ-loop
-loop-again c = let a = c .before .before .before .args in let l = c .before .before .loop in (omega arith, simp length-set (omega arith), down-turn (now a.work) l.work a.from a.to a.n l.j 0 (omega arith) (omega arith) (omega arith) (l.inv .2))
+loop-again c = let a = c .before .before .before .args in let l = c .before .before .loop in (
+  omega arith,
+  simp length-set (omega arith),
+  down-turn (now a.work) l.work a.from a.to a.n l.j 0 (omega arith) (omega arith)
+      (omega arith) (l.inv .2),
+)
 
 -- src/lib.rt:94:1
 same-length : tie.Need-same-length Inv-loop μ-loop
@@ -62,7 +67,8 @@ same-length c = c .before .loop .inv .1
 
 -- src/lib.rt:94:1
 returns : tie.Need-returns Inv-loop μ-loop
-returns c = let a = c .before .before .args in let l = c .before .loop in let e : l.j ≡ a.n = omega arith in l.inv .2 ∙ ap (moved (now a.work) a.from a.to) e
+returns c = let a = c .before .before .args in let l = c .before .loop in let e : l.j ≡ a.n = omega arith in l.inv .2
+    ∙ ap (moved (now a.work) a.from a.to) e
 
 pub move-down-spec : {M : Type 1} → statement M
 move-down-spec =

@@ -54,7 +54,12 @@ loop-less c = omega arith
 
 -- src/lib.rt:87:5
 loop-again : tie.Need-loop-again Inv-loop μ-loop
-loop-again c = let a = c .before .before .before .args in let l = c .before .before .loop in (omega arith, simp length-set (omega arith), up-turn (now a.work) l.work a.from a.to a.n l.j (l.j - 1) 0 (omega arith) (omega arith) (omega arith) (omega arith) (l.inv .2))
+loop-again c = let a = c .before .before .before .args in let l = c .before .before .loop in (
+  omega arith,
+  simp length-set (omega arith),
+  up-turn (now a.work) l.work a.from a.to a.n l.j (l.j - 1) 0 (omega arith) (omega arith)
+      (omega arith) (omega arith) (l.inv .2),
+)
 
 -- src/lib.rt:81:1
 same-length : tie.Need-same-length Inv-loop μ-loop
@@ -62,7 +67,8 @@ same-length c = c .before .loop .inv .1
 
 -- src/lib.rt:81:1
 returns : tie.Need-returns Inv-loop μ-loop
-returns c = let a = c .before .before .args in let l = c .before .loop in moved-eq l.work (now a.work) (a.from + l.j) a.from (a.to + l.j) a.to (a.n - l.j) a.n (l.inv .2) (omega arith) (omega arith) (omega arith)
+returns c = let a = c .before .before .args in let l = c .before .loop in moved-eq l.work (now a.work) (a.from + l.j) a.from
+    (a.to + l.j) a.to (a.n - l.j) a.n (l.inv .2) (omega arith) (omega arith) (omega arith)
 
 pub move-up-spec : {M : Type 1} → statement M
 move-up-spec =

@@ -34,7 +34,11 @@ returns : tie.Need-returns Inv-loop μ-loop
 returns c =
     let a = c .before .before .before .before .before .before .args in
     let l = c .before .before .before .before .loop in
-    omega (arith, nth-here (now a.work) a.live (omega arith) l.i (c .before .before .ready-at .result) l.left (omega arith) (c .before .before .ready-at .ensures) (c .before .if1 .taken) (c .if2 .taken))
+    omega (
+      arith,
+      nth-here (now a.work) a.live (omega arith) l.i (c .before .before .ready-at .result) l.left (omega arith)
+          (c .before .before .ready-at .ensures) (c .before .if1 .taken) (c .if2 .taken),
+    )
 
 -- src/lib.rt:73:13
 sub-left : tie.Need-sub-left Inv-loop μ-loop
@@ -54,15 +58,20 @@ loop-again c =
     let a = c .before .before .before .before .before .args in
     let l = c .before .before .before .loop in
     ⊎-elim
-    (λ w. let t = nth-next (now a.work) a.live (omega arith) l.i (c .before .ready-at .result) l.left (c .if1 .left) (omega arith) (c .before .ready-at .ensures) (w .0 .taken) (omega (arith, w .1 .left)) in (omega arith, omega arith))
-    (λ w. let t = nth-skip (now a.work) a.live (omega arith) l.i (c .before .ready-at .result) l.left (omega arith) (c .before .ready-at .ensures) (w .0 .left) in
-    let u : nth (c .if1 .left) (drop (l.i + 1) (marks (now a.work) a.live)) ≡ nth l.left (drop (l.i + 1) (marks (now a.work) a.live)) = ap (λ (j : ℕ). nth j (drop (l.i + 1) (marks (now a.work) a.live))) (w .1) in
+    (λ w. let t = nth-next (now a.work) a.live (omega arith) l.i (c .before .ready-at .result) l.left (c .if1 .left) (omega arith)
+    (c .before .ready-at .ensures) (w .0 .taken) (omega (arith, w .1 .left)) in (omega arith, omega arith))
+    (λ w. let t = nth-skip (now a.work) a.live (omega arith) l.i (c .before .ready-at .result) l.left (omega arith)
+    (c .before .ready-at .ensures) (w .0 .left) in
+    let u : nth (c .if1 .left) (drop (l.i + 1) (marks (now a.work) a.live))
+    ≡ nth l.left (drop (l.i + 1) (marks (now a.work) a.live)) = ap (λ (j : ℕ). nth j (drop (l.i + 1) (marks (now a.work) a.live)))
+    (w .1) in
     (omega arith, omega arith))
     (c .if1 .came)
 
 -- src/lib.rt:61:1
 returns-2 : tie.Need-returns-2 Inv-loop μ-loop
-returns-2 c = let a = c .before .before .before .args in omega (arith, nth-end (now a.work) a.live (omega arith) (c .before .loop .i) (c .before .loop .left) (c .loop-test .left))
+returns-2 c = let a = c .before .before .before .args in omega
+    (arith, nth-end (now a.work) a.live (omega arith) (c .before .loop .i) (c .before .loop .left) (c .loop-test .left))
 
 pub nth-ready-spec : {M : Type 1} → statement M
 nth-ready-spec =

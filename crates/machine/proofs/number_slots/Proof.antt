@@ -46,7 +46,8 @@ loop-again c =
     let a = s .args in
     let loop = c .before .before .before .before .before .loop in
     let put-head = c .before .before .put-head in
-    numbering-turns (now a.work) (loop .work) (put-head .last .0) (loop .i) (loop .i - 1) _ (loop .inv) (omega arith) refl (put-head .ensures)
+    numbering-turns (now a.work) (loop .work) (put-head .last .0) (loop .i) (loop .i - 1) _ (loop .inv) (omega arith) refl
+    (put-head .ensures)
 
 same-length : tie.Need-same-length Inv-loop μ-loop
 same-length c =

@@ -1,16 +1,10 @@
 use mathlib.Core.List.{[]}
-use mathlib.Core.Path.{_≡_, refl, sym, ap, _∙_}
 use native.Mathlib.Omega.{arith}
 use denote.Ref.{now}
-use Rattle.machine.proofs.Acts.{opened-one, opened-two, closed-one, closed-two, marks-one}
+use Rattle.machine.proofs.Acts.{opened-one}
 use borrow.Author.Needs.{needs}
 use Rattle.machine.proofs.open_one.Statement.{statement}
 use Rattle.machine.proofs.open_one.Tie as tie
-use Rattle.machine.proofs.open_one.Reads as reads
-use Rattle.machine.proofs.open_one.Lts as lts
-use Rattle.machine.proofs.head.Reads as head-reads
-use Rattle.machine.proofs.move_up.Reads as move-up-reads
-use Rattle.machine.proofs.put_head.Reads as put-head-reads
 
 head-requires : tie.Need-head-requires
 head-requires c κs = search needs
@@ -43,7 +37,12 @@ returns : tie.Need-returns
 returns c =
     let s = c .before .before .before .before .before .before .before .before .before .before .before in
     let a = s .args in
-    opened-one (now a.work) (c .before .before .before .before .before .before .move-up .last .0) (c .before .before .put-head .last .0) [] a.live a.p (c .before .before .before .before .before .before .before .before .head .result) [] (omega arith) (s .pre .3) (omega arith) (omega arith) (c .before .before .before .before .before .before .before .before .head .ensures) (c .before .before .before .before .before .before .move-up .ensures) (c .before .before .put-head .ensures)
+    let head = c .before .before .before .before .before .before .before .before .head in
+    let moved = c .before .before .before .before .before .before .move-up in
+    let put = c .before .before .put-head in
+    opened-one (now a.work) (moved .last .0) (put .last .0) [] a.live a.p (head .result) [] (omega arith) (s .pre .3) (omega arith)
+    (omega arith)
+    (head .ensures) (moved .ensures) (put .ensures)
 
 pub open-one-spec : {M : Type 1} → statement M
 open-one-spec =

@@ -20,7 +20,9 @@ same-length : tie.Need-same-length
 same-length c = search needs
 
 returns : tie.Need-returns
-returns c = let a = c .before .before .before .before .before .args in let k : length (a .h) ≡ 8 = search needs in put-stored (now a.work) (c .before .before .write8 .last .0) a.i (a .h) (omega arith) k (omega arith) (c .before .before .write8 .ensures)
+returns c = let a = c .before .before .before .before .before .args in let k : length (a .h)
+    ≡ 8 = search needs in put-stored (now a.work) (c .before .before .write8 .last .0) a.i (a .h) (omega arith) k (omega arith)
+    (c .before .before .write8 .ensures)
 
 pub put-head-spec : {M : Type 1} → statement M
 put-head-spec = tie.close (tie.spec mul-write8 write8-requires same-length returns)

@@ -52,7 +52,8 @@ returns c =
     let store-front = c .before .before .store-front in
     let slot-at = c .before .before .before .before .before .before .before .before .before .before .slot-at in
     let head = c .before .before .before .before .before .before .before .before .before .before .before .before .head in
-    has-put (now a.work) (put-head .last .0) (store-front .last .0) a.i (slot-at .result) (head .result) a.s (omega arith) (omega arith) (s .pre .2)
+    has-put (now a.work) (put-head .last .0) (store-front .last .0) a.i (slot-at .result) (head .result) a.s (omega arith) (omega arith)
+    (s .pre .2)
     (head .ensures) (s .pre .3) (slot-at .ensures .0) (put-head .ensures) (store-front .ensures)
 
 pub put-set-spec : {M : Type 1} → statement M

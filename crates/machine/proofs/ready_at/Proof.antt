@@ -25,7 +25,8 @@ returns : tie.Need-returns
 returns c = let a = c .before .before .before .args in sym (rd-at _ a.live (omega arith) a.i (omega arith) ∙ rdK-rest _ _ _ (c .if1 .taken))
 
 returns-2 : tie.Need-returns-2
-returns-2 c = let a = c .before .before .before .before .args in sym (rd-at _ a.live (omega arith) a.i (omega arith) ∙ rdK-done _ _ _ (c .if2 .taken))
+returns-2 c = let a = c .before .before .before .before .args in sym
+    (rd-at _ a.live (omega arith) a.i (omega arith) ∙ rdK-done _ _ _ (c .if2 .taken))
 
 add-done-at : tie.Need-add-done-at
 add-done-at c = search needs
@@ -34,7 +35,9 @@ done-at-requires : tie.Need-done-at-requires
 done-at-requires c κs = search needs
 
 returns-3 : tie.Need-returns-3
-returns-3 c = let a = c .before .before .before .before .before .before .args in c .before .done-at .ensures ∙ sym (rd-at _ a.live (omega arith) a.i (omega arith) ∙ rdK-one _ _ _ (c .before .before .before .if1 .left) (c .before .before .if2 .left) (c .if3 .taken))
+returns-3 c = let a = c .before .before .before .before .before .before .args in c .before .done-at .ensures
+    ∙ sym (rd-at _ a.live (omega arith) a.i (omega arith)
+    ∙ rdK-one _ _ _ (c .before .before .before .if1 .left) (c .before .before .if2 .left) (c .if3 .taken))
 
 add-done-at-2 : tie.Need-add-done-at-2
 add-done-at-2 c = search needs
@@ -43,11 +46,13 @@ done-at-requires-2 : tie.Need-done-at-requires-2
 done-at-requires-2 c κs = search needs
 
 returns-4 : tie.Need-returns-4
-returns-4 c = let a = c .before .before .before .before .before .before .before .before .args in let h = rd-at (now a.work) a.live (omega arith) a.i (omega arith) ∙ rdK-two _ _ _ (omega arith) in
+returns-4 c = let a = c .before .before .before .before .before .before .before .before .args in let h = rd-at (now a.work) a.live
+    (omega arith) a.i (omega arith) ∙ rdK-two _ _ _ (omega arith) in
     and-true (c .before .done-at2 .ensures) (c .before .before .before .done-at .ensures) (c .if4 .taken) ∙ sym h
 
 returns-5 : tie.Need-returns-5
-returns-5 c = let a = c .before .before .before .before .before .before .before .before .args in let h = rd-at (now a.work) a.live (omega arith) a.i (omega arith) ∙ rdK-two _ _ _ (omega arith) in
+returns-5 c = let a = c .before .before .before .before .before .before .before .before .args in let h = rd-at (now a.work) a.live
+    (omega arith) a.i (omega arith) ∙ rdK-two _ _ _ (omega arith) in
     and-false _ (c .before .before .before .done-at .ensures) (c .if4 .left) ∙ sym h
 
 pub ready-at-spec : {M : Type 1} → statement M

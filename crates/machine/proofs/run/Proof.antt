@@ -42,7 +42,8 @@ returns-2 c =
     let v2 = c .before .v2 in
     let accept = c .before .before .before .accept in
     let q = turned-away (now a.book) (now a.packet) (now a.schedule) (now a.result) (now a.work) (v2 .given .0 .0)
-    (refused-book (now a.book) (now a.packet) (now a.schedule) (now a.result) (now a.work) (v2 .given .0 .0) (accept .result) (accept .ensures) (v2 .given .1)) in
+    (refused-book (now a.book) (now a.packet) (now a.schedule) (now a.result) (now a.work) (v2 .given .0 .0) (accept .result)
+    (accept .ensures) (v2 .given .1)) in
     (q .says, q .out, q .area)
 
 pub run-spec : {M : Type 1} → statement M

@@ -13,7 +13,8 @@ returns c =
     let a = s .args in
     let if1 = c .if1 in
     turned-away (now a.book) (now a.packet) (now a.schedule) (now a.result) (now a.work) PacketLength
-    (refused-packet (now a.book) (now a.packet) (now a.schedule) (now a.result) (now a.work) (s .pre .0 .0) (s .pre .0 .1) (λ e. if1 .taken (e ∙ sym (s .pre .1))))
+    (refused-packet (now a.book) (now a.packet) (now a.schedule) (now a.result) (now a.work) (s .pre .0 .0) (s .pre .0 .1)
+    (λ e. if1 .taken (e ∙ sym (s .pre .1))))
 
 mul-if2 : tie.Need-mul-if2
 mul-if2 c = search needs
@@ -25,7 +26,8 @@ returns-2 c =
     let if1 = c .before .if1 in
     let if2 = c .if2 in
     turned-away (now a.book) (now a.packet) (now a.schedule) (now a.result) (now a.work) BufferLength
-    (refused-result (now a.book) (now a.packet) (now a.schedule) (now a.result) (now a.work) (s .pre .0 .0) (s .pre .0 .1) (if1 .left ∙ s .pre .1)
+    (refused-result (now a.book) (now a.packet) (now a.schedule) (now a.result) (now a.work) (s .pre .0 .0) (s .pre .0 .1)
+    (if1 .left ∙ s .pre .1)
     (omega (arith, if2 .taken, s .pre .1)))
 
 returns-3 : tie.Need-returns-3
@@ -36,7 +38,8 @@ returns-3 c =
     let if2 = c .before .if2 in
     let if3 = c .if3 in
     turned-away (now a.book) (now a.packet) (now a.schedule) (now a.result) (now a.work) BufferLength
-    (refused-area (now a.book) (now a.packet) (now a.schedule) (now a.result) (now a.work) (s .pre .0 .0) (s .pre .0 .1) (if1 .left ∙ s .pre .1)
+    (refused-area (now a.book) (now a.packet) (now a.schedule) (now a.result) (now a.work) (s .pre .0 .0) (s .pre .0 .1)
+    (if1 .left ∙ s .pre .1)
     (omega (arith, if2 .left, s .pre .1)) (if3 .taken))
 
 run-admitted-requires : tie.Need-run-admitted-requires

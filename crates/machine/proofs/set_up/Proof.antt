@@ -44,51 +44,68 @@ put-set-requires c κs =
 
 mark-requires : tie.Need-mark-requires
 mark-requires c κs =
-    let s = c .before .before .before .before .before .before .before .before .before .before .before .before .before .before .before .before .before in
+    let s = c .before .before .before .before .before .before .before .before .before .before .before .before .before .before .before
+    .before .before in
     let number-slots = c .before .before .before .before .before .before .before .before .number-slots in
     let put-set = c .before .before .before .put-set in
     (omega arith, omega (arith, s .pre .1 .0, number-slots .ensures .long, put-set .ensures .long), put-set .ensures .sound)
 
 settle-requires : tie.Need-settle-requires
 settle-requires c κs =
-    let s = c .before .before .before .before .before .before .before .before .before .before .before .before .before .before .before .before .before .before .before .before .before in
+    let s = c .before .before .before .before .before .before .before .before .before .before .before .before .before .before .before
+    .before .before .before .before .before .before in
     let a = s .args in
     let number-slots = c .before .before .before .before .before .before .before .before .before .before .before .before .number-slots in
     let put-set = c .before .before .before .before .before .before .before .put-set in
     let mark = c .before .before .before .mark in
-    let body-start = c .before .before .before .before .before .before .before .before .before .before .before .before .before .before .body-start in
-    let all-fields = c .before .before .before .before .before .before .before .before .before .before .before .before .before .before .before .all-fields in
+    let body-start = c .before .before .before .before .before .before .before .before .before .before .before .before .before
+    .before .body-start in
+    let all-fields = c .before .before .before .before .before .before .before .before .before .before .before .before .before .before
+    .before .all-fields in
     let one = c .before .before .before .before .before .before .before .before .one in
-    let byte-at = c .before .before .before .before .before .before .before .before .before .before .before .before .before .before .before .before .byte-at in
-    let pad = c .before .before .before .before .before .before .before .before .before .before .before .before .before .before .before .before .before .pad in
+    let byte-at = c .before .before .before .before .before .before .before .before .before .before .before .before .before .before .before
+    .before .byte-at in
+    let pad = c .before .before .before .before .before .before .before .before .before .before .before .before .before .before .before
+    .before .before .pad in
     start-stands (now a.book) (now a.packet) (now a.work) (number-slots .last .0) (put-set .last .0) (mark .last .0) (body-start .result)
-    (all-fields .result) (one .result) (s .pre .0 .0) (s .pre .0 .1) (s .pre .0 .2) (s .pre .1 .0) (number-slots .ensures) (body-start .ensures .0)
-    (all-fields .ensures ∙ ap allFields (byte-at .ensures)) (all-fields .result) (rw (pad .ensures) at (one .ensures)) (put-set .ensures) (mark .ensures)
+    (all-fields .result) (one .result) (s .pre .0 .0) (s .pre .0 .1) (s .pre .0 .2) (s .pre .1 .0) (number-slots .ensures)
+    (body-start .ensures .0)
+    (all-fields .ensures ∙ ap allFields (byte-at .ensures)) (all-fields .result) (rw (pad .ensures) at (one .ensures)) (put-set .ensures)
+    (mark .ensures)
 
 same-length : tie.Need-same-length
 same-length c =
     let settle = c .before .before .settle in
     let mark = c .before .before .before .before .before .before .mark in
     let put-set = c .before .before .before .before .before .before .before .before .before .before .put-set in
-    let number-slots = c .before .before .before .before .before .before .before .before .before .before .before .before .before .before .before .number-slots in
+    let number-slots = c .before .before .before .before .before .before .before .before .before .before .before .before .before .before
+    .before .number-slots in
     settle .ensures .becomes .long ∙ mark .ensures .long ∙ put-set .ensures .long ∙ number-slots .ensures .long
 
 returns : tie.Need-returns
 returns c =
-    let s = c .before .before .before .before .before .before .before .before .before .before .before .before .before .before .before .before .before .before .before .before .before .before .before .before in
+    let s = c .before .before .before .before .before .before .before .before .before .before .before .before .before .before .before
+    .before .before .before .before .before .before .before .before .before in
     let a = s .args in
-    let number-slots = c .before .before .before .before .before .before .before .before .before .before .before .before .before .before .before .number-slots in
+    let number-slots = c .before .before .before .before .before .before .before .before .before .before .before .before .before .before
+    .before .number-slots in
     let put-set = c .before .before .before .before .before .before .before .before .before .before .put-set in
     let mark = c .before .before .before .before .before .before .mark in
-    let body-start = c .before .before .before .before .before .before .before .before .before .before .before .before .before .before .before .before .before .body-start in
-    let all-fields = c .before .before .before .before .before .before .before .before .before .before .before .before .before .before .before .before .before .before .all-fields in
+    let body-start = c .before .before .before .before .before .before .before .before .before .before .before .before .before .before
+    .before .before .before .body-start in
+    let all-fields = c .before .before .before .before .before .before .before .before .before .before .before .before .before .before
+    .before .before .before .before .all-fields in
     let one = c .before .before .before .before .before .before .before .before .before .before .before .one in
-    let byte-at = c .before .before .before .before .before .before .before .before .before .before .before .before .before .before .before .before .before .before .before .byte-at in
-    let pad = c .before .before .before .before .before .before .before .before .before .before .before .before .before .before .before .before .before .before .before .before .pad in
+    let byte-at = c .before .before .before .before .before .before .before .before .before .before .before .before .before .before .before
+    .before .before .before .before .byte-at in
+    let pad = c .before .before .before .before .before .before .before .before .before .before .before .before .before .before .before
+    .before .before .before .before .before .pad in
     let settle = c .before .before .settle in
     started (now a.book) (now a.packet) (now a.work) (number-slots .last .0) (put-set .last .0) (mark .last .0) (body-start .result)
-    (all-fields .result) (one .result) (s .pre .0 .0) (s .pre .0 .1) (s .pre .0 .2) (s .pre .1 .0) (number-slots .ensures) (body-start .ensures .0)
-    (all-fields .ensures ∙ ap allFields (byte-at .ensures)) (all-fields .result) (rw (pad .ensures) at (one .ensures)) (put-set .ensures) (mark .ensures)
+    (all-fields .result) (one .result) (s .pre .0 .0) (s .pre .0 .1) (s .pre .0 .2) (s .pre .1 .0) (number-slots .ensures)
+    (body-start .ensures .0)
+    (all-fields .ensures ∙ ap allFields (byte-at .ensures)) (all-fields .result) (rw (pad .ensures) at (one .ensures)) (put-set .ensures)
+    (mark .ensures)
     (settle .last .1 .0) (settle .result) (settle .ensures)
 
 pub set-up-spec : {M : Type 1} → statement M

@@ -36,7 +36,8 @@ returns c =
     let a = s .args in
     let settle = c .before .before .before .before .before .before .settle in
     let settle2 = c .before .before .settle2 in
-    two-settled (now a.book) (now a.work) a.live a.i (s .pre) (settle .last .1 .0) (settle .result) (settle .ensures) (settle2 .last .1 .0) (settle2 .result)
+    two-settled (now a.book) (now a.work) a.live a.i (s .pre) (settle .last .1 .0) (settle .result) (settle .ensures) (settle2 .last .1 .0)
+    (settle2 .result)
     (settle2 .ensures)
 
 pub settle-two-spec : {M : Type 1} → statement M

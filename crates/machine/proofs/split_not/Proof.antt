@@ -45,15 +45,19 @@ same-length c = search needs
 
 returns : tie.Need-returns
 returns c =
-    let s = c .before .before .before .before .before .before .before .before .before .before .before .before .before .before .before .before .before .before .before .before in
+    let s = c .before .before .before .before .before .before .before .before .before .before .before .before .before .before .before
+    .before .before .before .before .before in
     let a = s .args in
-    let open-one = c .before .before .before .before .before .before .before .before .before .before .before .before .before .before .before .open-one in
+    let open-one = c .before .before .before .before .before .before .before .before .before .before .before .before .before .before
+    .before .open-one in
     let copy-set = c .before .before .before .before .before .before .before .before .before .before .before .copy-set in
     let mark = c .before .before .before .before .before .before .before .mark in
     let mark2 = c .before .before .mark2 in
-    let spot-at = c .before .before .before .before .before .before .before .before .before .before .before .before .before .before .before .before .before .spot-at in
+    let spot-at = c .before .before .before .before .before .before .before .before .before .before .before .before .before .before .before
+    .before .before .spot-at in
     not-opened (now a.work) (open-one .last .0) (copy-set .last .0) (mark .last .0) (mark2 .last .0) a.live a.i (spot-at .result .place)
-    (spot-at .result .mask) (s .pre .0 .0) (s .pre .0 .1) (s .pre .0 .3) (spot-at .ensures .0) (spot-at .ensures .1) (open-one .ensures) (copy-set .ensures)
+    (spot-at .result .mask) (s .pre .0 .0) (s .pre .0 .1) (s .pre .0 .3) (spot-at .ensures .0) (spot-at .ensures .1) (open-one .ensures)
+    (copy-set .ensures)
     (mark .ensures) (mark2 .ensures)
 
 pub split-not-spec : {M : Type 1} → statement M

@@ -54,15 +54,18 @@ same-length c = search needs
 
 returns : tie.Need-returns
 returns c =
-    let s = c .before .before .before .before .before .before .before .before .before .before .before .before .before .before .before .before .before .before in
+    let s = c .before .before .before .before .before .before .before .before .before .before .before .before .before .before .before
+    .before .before .before in
     let a = s .args in
     let open-one = c .before .before .before .before .before .before .before .before .before .before .open-one in
     let mark = c .before .before .before .before .before .before .mark in
     let mark2 = c .before .before .mark2 in
-    let spot-at = c .before .before .before .before .before .before .before .before .before .before .before .before .before .before .spot-at in
+    let spot-at = c .before .before .before .before .before .before .before .before .before .before .before .before .before
+    .before .spot-at in
     let place-after = c .before .before .before .before .before .before .before .before .before .before .before .before .place-after in
     seq-opened (now a.book) (now a.work) (open-one .last .0) (mark .last .0) (mark2 .last .0) a.live a.i (spot-at .result .place + 1)
-    (place-after .result) (spot-at .result .mask) (omega arith) (omega arith) (s .pre .0 .3) (ap (λ x. x + 1) (spot-at .ensures .0)) (spot-at .ensures .1)
+    (place-after .result) (spot-at .result .mask) (omega arith) (omega arith) (s .pre .0 .3) (ap (λ x. x + 1) (spot-at .ensures .0))
+    (spot-at .ensures .1)
     (place-after .ensures) (open-one .ensures) (mark .ensures) (mark2 .ensures)
 
 pub split-seq-spec : {M : Type 1} → statement M

@@ -59,56 +59,70 @@ open-two-requires c κs =
 
 add-put-set : tie.Need-add-put-set
 add-put-set c =
-    let s = c .before .before .before .before .before .before .before .before .before .before .before .before .before .before .before .before .before in
+    let s = c .before .before .before .before .before .before .before .before .before .before .before .before .before .before .before
+    .before .before in
     let p = s .pre in search needs
 
 put-set-requires : tie.Need-put-set-requires
 put-set-requires c κs =
-    let s = c .before .before .before .before .before .before .before .before .before .before .before .before .before .before .before .before .before in
+    let s = c .before .before .before .before .before .before .before .before .before .before .before .before .before .before .before
+    .before .before in
     let without = c .before .before .before .before .before .before .before .before .without in
     let p = s .pre in let r = without in search needs
 
 add-put-set-2 : tie.Need-add-put-set-2
 add-put-set-2 c =
-    let s = c .before .before .before .before .before .before .before .before .before .before .before .before .before .before .before .before .before .before .before .before .before in
+    let s = c .before .before .before .before .before .before .before .before .before .before .before .before .before .before .before
+    .before .before .before .before .before .before in
     let p = s .pre in search needs
 
 put-set-requires-2 : tie.Need-put-set-requires-2
 put-set-requires-2 c κs =
-    let s = c .before .before .before .before .before .before .before .before .before .before .before .before .before .before .before .before .before .before .before .before .before in
+    let s = c .before .before .before .before .before .before .before .before .before .before .before .before .before .before .before
+    .before .before .before .before .before .before in
     let without2 = c .before .before .before .before .before .before .before .before .before .before .without2 in
     let p = s .pre in let r = without2 in search needs
 
 mark-requires : tie.Need-mark-requires
 mark-requires c κs =
-    let s = c .before .before .before .before .before .before .before .before .before .before .before .before .before .before .before .before .before .before .before .before .before .before .before .before .before in
+    let s = c .before .before .before .before .before .before .before .before .before .before .before .before .before .before .before
+    .before .before .before .before .before .before .before .before .before .before in
     let p = s .pre in search needs
 
 add-mark : tie.Need-add-mark
 add-mark c =
-    let s = c .before .before .before .before .before .before .before .before .before .before .before .before .before .before .before .before .before .before .before .before .before .before .before .before .before .before .before .before .before in
+    let s = c .before .before .before .before .before .before .before .before .before .before .before .before .before .before .before
+    .before .before .before .before .before .before .before .before .before .before .before .before .before .before in
     let p = s .pre in search needs
 
 add-mark-2 : tie.Need-add-mark-2
 add-mark-2 c =
-    let s = c .before .before .before .before .before .before .before .before .before .before .before .before .before .before .before .before .before .before .before .before .before .before .before .before .before .before .before .before .before .before in
-    let spot-at = c .before .before .before .before .before .before .before .before .before .before .before .before .before .before .before .before .before .before .before .before .before .before .before .before .before .before .spot-at in
+    let s = c .before .before .before .before .before .before .before .before .before .before .before .before .before .before .before
+    .before .before .before .before .before .before .before .before .before .before .before .before .before .before .before in
+    let spot-at = c .before .before .before .before .before .before .before .before .before .before .before .before .before .before .before
+    .before .before .before .before .before .before .before .before .before .before .before .spot-at in
     let p = s .pre in let o = spot-at in search needs
 
 mark-requires-2 : tie.Need-mark-requires-2
 mark-requires-2 c κs =
-    let s = c .before .before .before .before .before .before .before .before .before .before .before .before .before .before .before .before .before .before .before .before .before .before .before .before .before .before .before .before .before .before in
+    let s = c .before .before .before .before .before .before .before .before .before .before .before .before .before .before .before
+    .before .before .before .before .before .before .before .before .before .before .before .before .before .before .before in
     let p = s .pre in search needs
 
 add-mark-3 : tie.Need-add-mark-3
 add-mark-3 c =
-    let s = c .before .before .before .before .before .before .before .before .before .before .before .before .before .before .before .before .before .before .before .before .before .before .before .before .before .before .before .before .before .before .before .before .before .before in
-    let spot-at = c .before .before .before .before .before .before .before .before .before .before .before .before .before .before .before .before .before .before .before .before .before .before .before .before .before .before .before .before .before .before .spot-at in
+    let s = c .before .before .before .before .before .before .before .before .before .before .before .before .before .before .before
+    .before .before .before .before .before .before .before .before .before .before .before .before .before .before .before .before
+    .before .before .before in
+    let spot-at = c .before .before .before .before .before .before .before .before .before .before .before .before .before .before .before
+    .before .before .before .before .before .before .before .before .before .before .before .before .before .before .before .spot-at in
     let p = s .pre in let o = spot-at in search needs
 
 mark-requires-3 : tie.Need-mark-requires-3
 mark-requires-3 c κs =
-    let s = c .before .before .before .before .before .before .before .before .before .before .before .before .before .before .before .before .before .before .before .before .before .before .before .before .before .before .before .before .before .before .before .before .before .before in
+    let s = c .before .before .before .before .before .before .before .before .before .before .before .before .before .before .before
+    .before .before .before .before .before .before .before .before .before .before .before .before .before .before .before .before
+    .before .before .before in
     let p = s .pre in search needs
 
 same-length : tie.Need-same-length
@@ -116,24 +130,39 @@ same-length c = search needs
 
 returns : tie.Need-returns
 returns c =
-    let s = c .before .before .before .before .before .before .before .before .before .before .before .before .before .before .before .before .before .before .before .before .before .before .before .before .before .before .before .before .before .before .before .before .before .before .before .before .before in
+    let s = c .before .before .before .before .before .before .before .before .before .before .before .before .before .before .before
+    .before .before .before .before .before .before .before .before .before .before .before .before .before .before .before .before
+    .before .before .before .before .before .before in
     let a = s .args in
-    let open-two = c .before .before .before .before .before .before .before .before .before .before .before .before .before .before .before .before .before .before .before .before .before .before .before .open-two in
-    let put-set = c .before .before .before .before .before .before .before .before .before .before .before .before .before .before .before .before .before .before .before .put-set in
-    let put-set2 = c .before .before .before .before .before .before .before .before .before .before .before .before .before .before .before .put-set2 in
+    let open-two = c .before .before .before .before .before .before .before .before .before .before .before .before .before .before
+    .before .before .before .before .before .before .before .before .before .open-two in
+    let put-set = c .before .before .before .before .before .before .before .before .before .before .before .before .before .before .before
+    .before .before .before .before .put-set in
+    let put-set2 = c .before .before .before .before .before .before .before .before .before .before .before .before .before .before
+    .before .put-set2 in
     let mark = c .before .before .before .before .before .before .before .before .before .before .before .mark in
     let mark2 = c .before .before .before .before .before .before .mark2 in
     let mark3 = c .before .before .mark3 in
-    let spot-at = c .before .before .before .before .before .before .before .before .before .before .before .before .before .before .before .before .before .before .before .before .before .before .before .before .before .before .before .before .before .before .before .before .before .spot-at in
-    let place-after = c .before .before .before .before .before .before .before .before .before .before .before .before .before .before .before .before .before .before .before .before .before .before .before .before .before .place-after in
-    let byte-at2 = c .before .before .before .before .before .before .before .before .before .before .before .before .before .before .before .before .before .before .before .before .before .before .before .before .before .before .before .byte-at2 in
-    let byte-at = c .before .before .before .before .before .before .before .before .before .before .before .before .before .before .before .before .before .before .before .before .before .before .before .before .before .before .before .before .before .byte-at in
-    let get-set = c .before .before .before .before .before .before .before .before .before .before .before .before .before .before .before .before .before .before .before .before .before .before .before .before .before .before .before .before .before .before .get-set in
-    let without = c .before .before .before .before .before .before .before .before .before .before .before .before .before .before .before .before .before .before .before .before .before .before .before .before .before .before .before .before .without in
-    let without2 = c .before .before .before .before .before .before .before .before .before .before .before .before .before .before .before .before .before .before .before .before .before .before .before .before .before .before .without2 in
-    sides-opened (now a.book) (now a.work) (open-two .last .0) (put-set .last .0) (put-set2 .last .0) (mark .last .0) (mark2 .last .0) (mark3 .last .0)
+    let spot-at = c .before .before .before .before .before .before .before .before .before .before .before .before .before .before .before
+    .before .before .before .before .before .before .before .before .before .before .before .before .before .before .before .before
+    .before .before .spot-at in
+    let place-after = c .before .before .before .before .before .before .before .before .before .before .before .before .before .before
+    .before .before .before .before .before .before .before .before .before .before .before .place-after in
+    let byte-at2 = c .before .before .before .before .before .before .before .before .before .before .before .before .before .before
+    .before .before .before .before .before .before .before .before .before .before .before .before .before .byte-at2 in
+    let byte-at = c .before .before .before .before .before .before .before .before .before .before .before .before .before .before .before
+    .before .before .before .before .before .before .before .before .before .before .before .before .before .before .byte-at in
+    let get-set = c .before .before .before .before .before .before .before .before .before .before .before .before .before .before .before
+    .before .before .before .before .before .before .before .before .before .before .before .before .before .before .before .get-set in
+    let without = c .before .before .before .before .before .before .before .before .before .before .before .before .before .before .before
+    .before .before .before .before .before .before .before .before .before .before .before .before .before .without in
+    let without2 = c .before .before .before .before .before .before .before .before .before .before .before .before .before .before
+    .before .before .before .before .before .before .before .before .before .before .before .before .without2 in
+    sides-opened (now a.book) (now a.work) (open-two .last .0) (put-set .last .0) (put-set2 .last .0) (mark .last .0) (mark2 .last .0)
+    (mark3 .last .0)
     a.live a.i (spot-at .result .place) (place-after .result) (spot-at .result .mask) (byte-at2 .result) (byte-at .result) (get-set .result)
-    (without .result) (without2 .result) (s .pre .0 .0) (s .pre .0 .1) (s .pre .0 .3) (spot-at .ensures .0) (spot-at .ensures .1) (place-after .ensures)
+    (without .result) (without2 .result) (s .pre .0 .0) (s .pre .0 .1) (s .pre .0 .3) (spot-at .ensures .0) (spot-at .ensures .1)
+    (place-after .ensures)
     (get-set .ensures) (byte-at .ensures) (byte-at2 .ensures) (without .ensures) (without2 .ensures) (open-two .ensures) (put-set .ensures)
     (put-set2 .ensures) (mark .ensures) (mark2 .ensures) (mark3 .ensures)
 

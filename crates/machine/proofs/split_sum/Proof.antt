@@ -65,12 +65,14 @@ mark-requires-2 c κs = search needs
 
 add-mark-2 : tie.Need-add-mark-2
 add-mark-2 c =
-    let s = c .before .before .before .before .before .before .before .before .before .before .before .before .before .before .before .before .before .before .before .before .before .before .before in
+    let s = c .before .before .before .before .before .before .before .before .before .before .before .before .before .before .before
+    .before .before .before .before .before .before .before .before in
     let p = s .pre in search needs
 
 mark-requires-3 : tie.Need-mark-requires-3
 mark-requires-3 c κs =
-    let s = c .before .before .before .before .before .before .before .before .before .before .before .before .before .before .before .before .before .before .before .before .before .before .before in
+    let s = c .before .before .before .before .before .before .before .before .before .before .before .before .before .before .before
+    .before .before .before .before .before .before .before .before in
     let p = s .pre in search needs
 
 same-length : tie.Need-same-length
@@ -78,18 +80,26 @@ same-length c = search needs
 
 returns : tie.Need-returns
 returns c =
-    let s = c .before .before .before .before .before .before .before .before .before .before .before .before .before .before .before .before .before .before .before .before .before .before .before .before .before .before in
+    let s = c .before .before .before .before .before .before .before .before .before .before .before .before .before .before .before
+    .before .before .before .before .before .before .before .before .before .before .before in
     let a = s .args in
-    let open-two = c .before .before .before .before .before .before .before .before .before .before .before .before .before .before .before .before .before .before .open-two in
-    let copy-set = c .before .before .before .before .before .before .before .before .before .before .before .before .before .before .copy-set in
+    let open-two = c .before .before .before .before .before .before .before .before .before .before .before .before .before .before
+    .before .before .before .before .open-two in
+    let copy-set = c .before .before .before .before .before .before .before .before .before .before .before .before .before
+    .before .copy-set in
     let mark = c .before .before .before .before .before .before .before .before .before .before .mark in
     let mark2 = c .before .before .before .before .before .before .mark2 in
     let mark3 = c .before .before .mark3 in
-    let spot-at = c .before .before .before .before .before .before .before .before .before .before .before .before .before .before .before .before .before .before .before .before .before .before .spot-at in
-    let place-after = c .before .before .before .before .before .before .before .before .before .before .before .before .before .before .before .before .before .before .before .before .place-after in
-    sum-opened (now a.book) (now a.work) (open-two .last .0) (copy-set .last .0) (mark .last .0) (mark2 .last .0) (mark3 .last .0) a.live a.i
-    (spot-at .result .place) (spot-at .result .place + 1) (place-after .result) (spot-at .result .mask) (s .pre .0 .0) (s .pre .0 .1) (s .pre .0 .3)
-    (spot-at .ensures .0) (ap (λ x. x + 1) (spot-at .ensures .0)) (place-after .ensures) (spot-at .ensures .1) (open-two .ensures) (copy-set .ensures)
+    let spot-at = c .before .before .before .before .before .before .before .before .before .before .before .before .before .before .before
+    .before .before .before .before .before .before .before .spot-at in
+    let place-after = c .before .before .before .before .before .before .before .before .before .before .before .before .before .before
+    .before .before .before .before .before .before .place-after in
+    sum-opened (now a.book) (now a.work) (open-two .last .0) (copy-set .last .0) (mark .last .0) (mark2 .last .0)
+    (mark3 .last .0) a.live a.i
+    (spot-at .result .place) (spot-at .result .place + 1) (place-after .result) (spot-at .result .mask) (s .pre .0 .0) (s .pre .0 .1)
+    (s .pre .0 .3)
+    (spot-at .ensures .0) (ap (λ x. x + 1) (spot-at .ensures .0)) (place-after .ensures) (spot-at .ensures .1) (open-two .ensures)
+    (copy-set .ensures)
     (mark .ensures) (mark2 .ensures) (mark3 .ensures)
 
 pub split-sum-spec : {M : Type 1} → statement M

@@ -1,7 +1,8 @@
 use borrow.Author.Needs.{needs}
 use denote.Ref.{now}
 use native.Mathlib.Omega.{arith}
-use Rattle.machine.proofs.Stepping.{can-enter, entered-step, can-take, taken-step, can-leave-not, not-step, can-leave-both, both-step}
+use Rattle.machine.proofs.Stepping.{can-enter, entered-step, can-take, taken-step, can-leave-not, not-step, can-leave-both}
+use Rattle.machine.proofs.Stepping.{both-step}
 use Rattle.machine.proofs.step.Statement.{statement}
 use Rattle.machine.proofs.step.Tie as tie
 
@@ -26,7 +27,8 @@ returns c =
     let phase-at = c .before .before .before .before .before .phase-at in
     let if1 = c .before .before .before .before .if1 in
     let enter = c .before .before .enter in
-    entered-step (now a.book) (now a.work) a.live a.i (s .pre) (phase-at .result) (phase-at .ensures) (if1 .taken) (enter .last .1 .0) (enter .result)
+    entered-step (now a.book) (now a.work) a.live a.i (s .pre) (phase-at .result) (phase-at .ensures) (if1 .taken) (enter .last .1 .0)
+    (enter .result)
     (enter .ensures)
 
 take-next-requires : tie.Need-take-next-requires

@@ -16,7 +16,8 @@ step-requires c κs = search needs
 ready-near-requires-2 : tie.Need-ready-near-requires-2
 ready-near-requires-2 c κs =
     let s = c .before .before .before .before .before .before .before .before .before .before in
-    can-recount (s .pre .0) (c .before .before .before .step .ensures) (c .before .before .before .before .before .before .before .left-alone .ensures)
+    can-recount (s .pre .0) (c .before .before .before .step .ensures)
+    (c .before .before .before .before .before .before .before .left-alone .ensures)
 
 add-ready : tie.Need-add-ready
 add-ready c =

@@ -44,8 +44,12 @@ loop-less c = search needs
 loop-again : tie.Need-loop-again Inv-loop μ-loop
 loop-again c =
     let a = c .before .before .before .args in
-    let l = c .before .before .loop in
-    (omega arith, simp length-set (omega arith), rw (l .inv .2, add-one) (paste-suc (now a.area) a.at (now a.v) (l .i) 0 (omega arith) (omega arith)))
+    let l = c .before .before .loop in (
+      omega arith,
+      simp length-set (omega arith),
+      rw (l .inv .2, add-one)
+          (paste-suc (now a.area) a.at (now a.v) (l .i) 0 (omega arith) (omega arith)),
+    )
 
 same-length : tie.Need-same-length Inv-loop μ-loop
 same-length c = c .before .loop .inv .1
