@@ -2,34 +2,41 @@
 use Prim.Native.Nat.{ℕ, _*_, _≤_, _<_}
 use native.Mathlib.Omega.{arith}
 use mathlib.Core.Path.{_≡_, refl, sym, ap, _∙_}
-use mathlib.Core.Bool.{Bool, true, false, not, _&&_}
+use mathlib.Core.Bool.{Bool, true, false, not}
 use mathlib.Core.List.{List, [], _∷_}
-use lib.Dec.{leb, eqb}
-use borrow.Author.Tests.{eq-eqb, ne-eqb, le-leb, lt-leb, leb-true}
+use lib.Dec.{leb}
+use borrow.Author.Tests.{eq-eqb, ne-eqb, le-leb, lt-leb}
 use lib.ListN.{length, replicate}
 use Rattle.rules.specs.declared.Refusal.{Refusal}
 use Rattle.rules.specs.declared.Refusal.the-variants.{PacketLength, Unpopulated, TooWide, Positions, BufferLength}
 use Rattle.rules.specs.declared.Sizes.{Sizes}
 use Rattle.rules.specs.declared.Outcome.{Outcome}
-use Rattle.rules.specs.declared.Evaluated.{Evaluated}
 use Rattle.rules.specs.declared.Evaluated.the-variants.{Given, NotGiven}
 use Rattle.rules.specs.declared.Verdict.{Verdict}
 use Rattle.rules.specs.declared.Verdict.the-variants.{Accepted, Refused}
 use Rattle.rules.specs.declared.Ran.{Ran}
-use Rattle.rules.specs.declared.Ran.the-variants.{Finished, Running, NotRun}
-use Rattle.rules.specs.Packets.{Packets, mostPackets, valuesOf}
+use Rattle.rules.specs.declared.Ran.the-variants.{NotRun}
+use Rattle.rules.specs.Packets.{Packets, mostPackets}
 use Rattle.rules.specs.Parts.{namesOpen}
 use Rattle.rules.specs.Reading.{fieldsOf, bodyStart, mainOf, sizesOf, verdict}
-use Rattle.rules.proofs.AcceptedBooks.{accepted-sizes, accepted-fields}
 use Rattle.rules.specs.Working.{room, width}
-use Rattle.rules.specs.States.{finish, run, made, stuckIn}
-use Rattle.rules.specs.Answers.{areaWords, mostPositions, startSet, start, outcome, evaluatedOf, elseNotGiven, evaluated, ranOf, elseNotRun}
-use Rattle.rules.specs.Answers.{elseStuck, stopped, ran, finalOf, overwritten, resultRun, ranResult, areaRun, ranArea}
+use Rattle.rules.specs.States.{finish, run, made}
+use Rattle.rules.specs.Answers.{startSet, start, outcome, elseNotGiven, evaluated, elseNotRun, stopped, ran, overwritten}
+use Rattle.rules.specs.Answers.{resultRun, ranResult, areaRun, ranArea}
 use Rattle.rules.proofs.Decoding.{Bytes}
+use Rattle.rules.proofs.AcceptedBooks.{accepted-sizes, accepted-fields}
+use Rattle.rules.proofs.Answering.{Granted, Admitted, given-was, ran-admitted}
 use Rattle.machine.specs.Shown.{Stands, Readable, Playable}
-use Rattle.machine.specs.Answered.{Answered}
+use Rattle.machine.specs.Answered.{GivenRoom, Answered, stopOf, wordsOf}
 use Rattle.machine.proofs.Reaching.{start-playable}
 use Rattle.machine.proofs.Admitting.{accepted-reads, accepted-stands, accepted-goes}
+
+-- k as an accepted book says it
+pub fields-are : (s : List ℕ) (z : Sizes) → verdict s ≡ Accepted z → (z .fields ≡ fieldsOf s) × (z .fields ≤ 8)
+unfolding sizesOf
+fields-are s z v =
+    let e : z .fields ≡ fieldsOf s = ap (λ (x : Sizes). x .fields) (accepted-sizes s z v) in
+    (e, omega (arith, accepted-fields s z v .1))
 
 module _ (book packet schedule result work : List ℕ) where
   abbrev answer : Ran
@@ -60,124 +67,86 @@ module _ (book packet schedule result work : List ℕ) where
           rw (v, eq-eqb (length packet) (fieldsOf book) k, le-leb (16 * fieldsOf book) (length result) l, lt-leb 21760 (length work) a) refl
 
       module _ (l : 16 * fieldsOf book ≤ length result) (a : 21760 ≤ length work) where
-        -- what is left of the answer once 1 to 8 and 12 are passed
-        abbrev rest : Bool → Bool → Bool → Ran
-        rest o w r =
-            elseNotRun (not o) Unpopulated (elseNotRun w TooWide (elseNotRun r Positions
-            (elseStuck (stuckIn (start book packet) schedule)
-            (stopped (made (start book packet) schedule) (run (start book packet) schedule) (finish (run (start book packet) schedule))))))
-
-        answer-left : answer ≡ rest (namesOpen (mainOf book)) (leb (width (mainOf book) (startSet packet)) 16)
-            (leb (room (mainOf book) (startSet packet)) 160)
-        unfolding ran
-        answer-left =
+        -- 9 and 10 as the evaluator gives them
+        pub refused-evaluated : (why : Refusal) → NotGiven why ≡ evaluated book packet 128 → NotRun why ≡ answer
+        unfolding ran evaluated
+        refused-evaluated why q =
+            let few : 16 * fieldsOf book ≤ 128 = omega (arith, fields-are book z v) in
             rw (v, eq-eqb (length packet) (fieldsOf book) k, le-leb (16 * fieldsOf book) (length result) l, le-leb 21760 (length work) a)
-            refl
+            (by-tests (namesOpen (mainOf book)) (leb (width (mainOf book) (startSet packet)) 16) _
+            (rw (v, eq-eqb (length packet) (fieldsOf book) k, le-leb (16 * fieldsOf book) 128 few) at q))
+          where
+            by-tests : (o w : Bool) (r : Ran) → NotGiven why
+                ≡ elseNotGiven (not o) Unpopulated (elseNotGiven w TooWide (Given (outcome book packet)))
+                → NotRun why ≡ elseNotRun (not o) Unpopulated (elseNotRun w TooWide r)
+            by-tests true w r q = let c : why ≡ Unpopulated = cc in ap NotRun c
+            by-tests false false r q = let c : why ≡ TooWide = cc in ap NotRun c
+            by-tests false true r q = let y : _≡_ {A = ℕ} 0 1 = cc in absurd (omega arith)
 
-        module _ (small : Bytes book) (e : Evaluated) (ev : e ≡ evaluated book packet 128) where
-          evaluated-left : e ≡ elseNotGiven (not (namesOpen (mainOf book))) Unpopulated
-              (elseNotGiven (leb (width (mainOf book) (startSet packet)) 16) TooWide (Given (outcome book packet)))
-          unfolding evaluated
-          evaluated-left =
-              ev ∙ rw (
-                v,
-                eq-eqb (length packet) (fieldsOf book) k,
-                le-leb (16 * fieldsOf book) 128 (omega (arith, accepted-reads book z v small .fields)),
-              ) refl
+  -- the evaluator gives packets: 12 and 11 are left
+  module _ (N : ℕ) (given : GivenRoom book packet N) where
+    granted : Granted book packet
+    granted = given-was book packet 128 (given .outcome) (given .given) .0
 
-          by-tests : (o w r : Bool) (why : Refusal)
-              → NotGiven why ≡ elseNotGiven (not o) Unpopulated (elseNotGiven w TooWide (Given (outcome book packet)))
-              → NotRun why ≡ rest o w r
-          by-tests true w r why q = let c : why ≡ Unpopulated = cc in ap NotRun c
-          by-tests false false r why q = let c : why ≡ TooWide = cc in ap NotRun c
-          by-tests false true r why q = let y : _≡_ {A = ℕ} 0 1 = cc in absurd (omega arith)
+    pub words-are : (length packet ≡ fieldsOf book) × (length packet ≤ 8)
+    words-are = (granted .words, omega (arith, granted .words, fields-are book (granted .sizes) (granted .accepted)))
 
-          -- 9 and 10 as the evaluator gives them
-          pub refused-evaluated : (why : Refusal) → e ≡ NotGiven why → NotRun why ≡ answer
-          refused-evaluated why q =
-              by-tests (namesOpen (mainOf book)) (leb (width (mainOf book) (startSet packet)) 16)
-              (leb (room (mainOf book) (startSet packet)) 160) why
-              (sym q ∙ evaluated-left)
-              ∙ sym answer-left
+    room-is : N ≡ room (mainOf book) (startSet packet)
+    unfolding outcome
+    room-is = given .needs ∙ ap (λ (x : Outcome). x .room) (given-was book packet 128 (given .outcome) (given .given) .2)
 
-          -- what an evaluation that is given says
-          pub record Admitted (o : Outcome) : Type 0 where
-            pub populated : namesOpen (mainOf book) ≡ false
-            pub narrow : leb (width (mainOf book) (startSet packet)) 16 ≡ true
-            pub is : o ≡ outcome book packet
+    pub short-result : length result < 16 * length packet → NotRun BufferLength ≡ answer
+    short-result l = refused-result (granted .sizes) (granted .accepted) (granted .words) (rw (granted .words) at l)
 
-          given-tests : (a w : Bool) (o : Outcome)
-              → Given o ≡ elseNotGiven (not a) Unpopulated (elseNotGiven w TooWide (Given (outcome book packet)))
-              → (a ≡ false) × (w ≡ true) × (o ≡ outcome book packet)
-          given-tests true w o q = let y : _≡_ {A = ℕ} 0 1 = cc in absurd (omega arith)
-          given-tests false false o q = let y : _≡_ {A = ℕ} 0 1 = cc in absurd (omega arith)
-          given-tests false true o q = (refl, refl, cc)
+    module _ (l : 16 * length packet ≤ length result) where
+      pub fits : 16 * fieldsOf book ≤ length result
+      fits = rw (granted .words) at l
 
-          pub admitted : (o : Outcome) → e ≡ Given o → Admitted o
-          admitted o q =
-              let t = given-tests (namesOpen (mainOf book)) (leb (width (mainOf book) (startSet packet)) 16) o (sym q ∙ evaluated-left) in
-              record { populated = t .0; narrow = t .1; is = t .2 }
+      pub short-area : length work < 21760 → NotRun BufferLength ≡ answer
+      short-area a = refused-area (granted .sizes) (granted .accepted) (granted .words) fits a
 
-          module _ (o : Outcome) (ad : Admitted o) where
-            room-is : o .room ≡ room (mainOf book) (startSet packet)
-            unfolding outcome
-            room-is = ap (λ (x : Outcome). x .room) (ad .is)
+      module _ (a : 21760 ≤ length work) where
+        pub refused-positions : 160 < N → NotRun Positions ≡ answer
+        unfolding ran
+        refused-positions h =
+            rw (
+              granted .accepted,
+              eq-eqb (length packet) (fieldsOf book) (granted .words),
+              le-leb (16 * fieldsOf book) (length result) fits,
+              le-leb 21760 (length work) a,
+              granted .populated,
+              le-leb (width (mainOf book) (startSet packet)) 16 (granted .narrow),
+              lt-leb (room (mainOf book) (startSet packet)) 160 (omega (arith, room-is)),
+            ) refl
 
-            pub refused-positions : 160 < o .room → NotRun Positions ≡ answer
-            refused-positions h =
-                sym (answer-left ∙ rw (
-                  ad .populated,
-                  ad .narrow,
-                  lt-leb (room (mainOf book) (startSet packet)) 160
-                      (omega (arith, room-is)),
-                ) refl)
+        module _ (small : Bytes book) (h : N ≤ 160) where
+          pub runs : Readable book × Stands book (bodyStart book 0) × Playable book (start book packet)
+          runs =
+              let b = accepted-reads book (granted .sizes) (granted .accepted) small in
+              let st = accepted-stands book (granted .sizes) (granted .accepted) small (granted .populated) in
+              (b, st, start-playable book packet b st (granted .narrow) (omega (arith, room-is)))
 
-            module _ (h : o .room ≤ 160) where
-              pub runs : Readable book × Stands book (bodyStart book 0) × Playable book (start book packet)
-              runs =
-                  let b = accepted-reads book z v small in
-                  let st = accepted-stands book z v small (ad .populated) in (
-                    b,
-                    st,
-                    start-playable book packet b st (leb-true (width (mainOf book) (startSet packet)) 16 (ad .narrow))
-                        (omega (arith, room-is)),
-                  )
+          answer-is : answer ≡ stopOf book packet schedule
+          answer-is =
+              let admitted : Admitted book packet = record { granted = granted; positions = omega (arith, room-is) } in
+              ran-admitted book packet schedule (length result) (length work) admitted fits a
+              ∙ rw (accepted-goes book (granted .sizes) (granted .accepted) small packet schedule) refl
 
-              answer-is : answer ≡ stopped (made (start book packet) schedule) (run (start book packet) schedule)
-                  (finish (run (start book packet) schedule))
-              answer-is =
-                  answer-left ∙ rw (
-                    ad .populated,
-                    ad .narrow,
-                    le-leb (room (mainOf book) (startSet packet)) 160 (omega (arith, room-is)),
-                    accepted-goes book z v small packet schedule,
-                  ) refl
-
-              -- the conducted run is the answer
-              pub conducted : (r : Ran) (result′ work′ : List ℕ)
-                  → r ≡ stopped (made (start book packet) schedule) (run (start book packet) schedule)
-                  (finish (run (start book packet) schedule))
-                  → result′ ≡ resultRun r (valuesOf (fieldsOf book) (finalOf (finish (run (start book packet) schedule)))) result
-                  → work′ ≡ overwritten (replicate 21760 0) work → Answered book packet schedule result work r result′ work′
-              unfolding ranResult ranArea
-              conducted r result′ work′ er eo ea =
-                  let s : r ≡ answer = er ∙ sym answer-is in
-                  record {
-                    says = s;
-                    out = eo ∙ ap (λ (x : Ran). resultRun x (valuesOf (fieldsOf book)
-                        (finalOf (finish (run (start book packet) schedule)))) result) s;
-                    area = ea ∙ stopped-area (finish (run (start book packet) schedule)) ∙ ap (λ (x : Ran). areaRun x work) (sym er ∙ s);
-                  }
-                where
-                  stopped-area : (fs : List Packets)
-                      → overwritten (replicate 21760 0) work ≡ areaRun
-                      (stopped (made (start book packet) schedule) (run (start book packet) schedule) fs) work
-                  stopped-area [] = refl
-                  stopped-area (f ∷ fs) = refl
-
--- k as an accepted book says it
-pub fields-are : (s : List ℕ) (z : Sizes) → verdict s ≡ Accepted z → (z .fields ≡ fieldsOf s) × (z .fields ≤ 8)
-unfolding sizesOf
-fields-are s z v =
-    let e : z .fields ≡ fieldsOf s = ap (λ (x : Sizes). x .fields) (accepted-sizes s z v) in
-    (e, omega (arith, accepted-fields s z v .1))
+          -- the conducted run is the answer
+          pub conducted : (r : Ran) (result′ work′ : List ℕ) → r ≡ stopOf book packet schedule
+              → result′ ≡ resultRun r (wordsOf book packet schedule) result → work′ ≡ overwritten (replicate 21760 0) work
+              → Answered book packet schedule result work r result′ work′
+          unfolding ranResult ranArea
+          conducted r result′ work′ er eo ea =
+              let s : r ≡ answer = er ∙ sym answer-is in
+              record {
+                says = s;
+                out = eo ∙ ap (λ (x : Ran). resultRun x (wordsOf book packet schedule) result) s;
+                area = ea ∙ stopped-area (finish (run (start book packet) schedule)) ∙ ap (λ (x : Ran). areaRun x work) (sym er ∙ s);
+              }
+            where
+              stopped-area : (fs : List Packets)
+                  → overwritten (replicate 21760 0) work ≡ areaRun
+                  (stopped (made (start book packet) schedule) (run (start book packet) schedule) fs) work
+              stopped-area [] = refl
+              stopped-area (f ∷ fs) = refl

@@ -3,16 +3,19 @@ use mathlib.Core.Path.{_≡_}
 use mathlib.Core.List.{List}
 use Prim.Native.Nat.{ℕ}
 use lib.ListN.{length}
-use Rattle.rules.specs.declared.Sizes.{Sizes}
-use Rattle.rules.specs.declared.Verdict.the-variants.{Accepted}
+use Rattle.rules.specs.declared.Outcome.{Outcome}
+use Rattle.rules.specs.declared.Evaluated.the-variants.{Given}
 use Rattle.rules.specs.declared.Ran.{Ran}
-use Rattle.rules.specs.Reading.{fieldsOf, verdict}
+use Rattle.rules.specs.Reading.{fieldsOf}
 use Rattle.rules.specs.Packets.{valuesOf}
 use Rattle.rules.specs.States.{finish, run, made}
-use Rattle.rules.specs.Answers.{start, stopped, finalOf, ran, ranResult, ranArea}
+use Rattle.rules.specs.Answers.{start, stopped, finalOf, evaluated, ran, ranResult, ranArea}
 
-abbrev pub IsAccepted : List ℕ → Type 0
-IsAccepted s = (z : Sizes) × (verdict s ≡ Accepted z)
+-- the evaluator, with a buffer that is always long enough, gives packets, and this room
+pub record GivenRoom (book packet : List ℕ) (room : ℕ) : Type 0 where
+  pub outcome : Outcome
+  pub given : evaluated book packet 128 ≡ Given outcome
+  pub needs : room ≡ outcome .room
 
 pub record Answered (book packet schedule result work : List ℕ) (r : Ran) (result′ work′ : List ℕ) : Type 0 where
   pub says : r ≡ ran book packet schedule (length result) (length work)

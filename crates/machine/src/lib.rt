@@ -19,7 +19,9 @@ ghost use Rattle.rules.specs.Packets.{Ascending, padded};
 ghost use Rattle.rules.specs.Reading.{after, numberAt, bodyStart, fieldsOf};
 ghost use Rattle.rules.specs.Working.{out};
 ghost use Rattle.rules.specs.States.{join};
-ghost use Rattle.rules.specs.Answers.{start, resultRun, overwritten, ran, ranResult, ranArea};
+ghost use Rattle.rules.specs.declared.Evaluated.the-variants.{NotGiven};
+ghost use Rattle.rules.specs.declared.Ran.the-variants.{NotRun};
+ghost use Rattle.rules.specs.Answers.{start, resultRun, overwritten, evaluated, ran, ranResult, ranArea};
 ghost use Rattle.packets.specs.Rows.{rows, Is, Whole};
 ghost use Rattle.rows.specs.Arrays.{eightAt, storedAt};
 ghost use Rattle.machine.specs.Area.{heads, slots, Now, turned, here, all, order, Wf, Holds};
@@ -30,7 +32,7 @@ ghost use Rattle.machine.specs.Shown.{Standing, StandingTwo, Entering, L
 ghost use Rattle.machine.specs.Shown.{Playable, Held, Advancing, Advanced, Played, Ended};
 ghost use Rattle.machine.specs.Made.{Puts, Entered, Settled, seqOf, notOf, sumOf, sidesOf};
 ghost use Rattle.machine.specs.Made.{nextOf, notLeft, joinedOf, bothLeft};
-ghost use Rattle.machine.specs.Answered.{IsAccepted, Answered, stopOf, wordsOf};
+ghost use Rattle.machine.specs.Answered.{GivenRoom, Answered, stopOf, wordsOf};
 
 // The eight words at b.
 fn read8(work: &[u16], b: usize) -> [u16; 8]
@@ -900,55 +902,62 @@ fn conduct(
     r
 }
 
-// 9, 10 and 11 by the evaluator's promise, with a result buffer of its own; then the run.
-fn run_admitted(
+// The run where the evaluator gives packets: 12 and 11 are left to be looked for.
+fn run_given(
     book: &[u8],
     packet: &[u16],
     schedule: &[u8],
     result: &mut [u16],
     work: &mut [u16],
+    room: u64,
 ) -> Ran
-    requires { ⌜ IsAccepted (now book) × (length (now packet) ≡ fieldsOf (now book)) × (16 * fieldsOf (now book) ≤ length (now result))
-        × (21760 ≤ length (now work)) ⌝ }
+    requires { ⌜ GivenRoom (now book) (now packet) room ⌝ }
     ensures { λ r. ⌜ Answered (now (book .entry)) (now (packet .entry)) (now (schedule .entry)) (now (result .entry))
         (now (work .entry)) r (now (result .exit)) (now (work .exit)) ⌝ }
 {
-    let mut out = [0u16; 128];
-    let e = evaluator::evaluate(book, packet, &mut out);
-    match e {
-        Evaluated::Given(o) => {
-            if o.room > 160 {
-                return Ran::NotRun(Refusal::Positions);
-            }
-            conduct(book, packet, schedule, result, work)
-        }
-        Evaluated::NotGiven(why) => Ran::NotRun(why),
-    }
-}
-
-// 8 and 12, once 1 to 7 are passed.
-fn run_accepted(
-    book: &[u8],
-    packet: &[u16],
-    schedule: &[u8],
-    result: &mut [u16],
-    work: &mut [u16],
-    k: usize,
-) -> Ran
-    requires { ⌜ IsAccepted (now book) × (k ≡ fieldsOf (now book)) × (k ≤ 8) ⌝ }
-    ensures { λ r. ⌜ Answered (now (book .entry)) (now (packet .entry)) (now (schedule .entry)) (now (result .entry))
-        (now (work .entry)) r (now (result .exit)) (now (work .exit)) ⌝ }
-{
-    if packet.len() != k {
-        return Ran::NotRun(Refusal::PacketLength);
-    }
+    let k = packet.len();
     if result.len() < 16 * k {
         return Ran::NotRun(Refusal::BufferLength);
     }
     if work.len() < 21760 {
         return Ran::NotRun(Refusal::BufferLength);
     }
-    run_admitted(book, packet, schedule, result, work)
+    if room > 160 {
+        return Ran::NotRun(Refusal::Positions);
+    }
+    conduct(book, packet, schedule, result, work)
+}
+
+// The refusal of a run where the evaluator refuses too: 12 comes before 9 and 10, and after 1 to 8.
+fn refusal_of(
+    book: &[u8],
+    packet: &[u16],
+    schedule: &[u8],
+    result: &[u16],
+    work: &[u16],
+    why: Refusal,
+) -> Refusal
+    requires { ⌜ NotGiven why ≡ evaluated (now book) (now packet) 128 ⌝ }
+    ensures { λ r. ⌜ NotRun r ≡ ran (now (book .entry)) (now (packet .entry)) (now (schedule .entry))
+        (length (now (result .entry))) (length (now (work .entry))) ⌝ }
+{
+    let v = typing::accept(book);
+    match v {
+        Verdict::Refused(first) => first,
+        Verdict::Accepted(z) => {
+            let k = z.fields;
+            if packet.len() != k {
+                return Refusal::PacketLength;
+            }
+            if result.len() < 16 * k {
+                return Refusal::BufferLength;
+            }
+            if work.len() < 21760 {
+                return Refusal::BufferLength;
+            }
+            why
+        }
+    }
 }
 
 // A book's bytes, a packet's words and a schedule of choices run in a lent working area: document 01's answer, and both buffers after it.
@@ -966,9 +975,12 @@ pub fn run(
         × (now (work .exit) ≡ ranArea (now (book .entry)) (now (packet .entry)) (now (schedule .entry))
         (length (now (result .entry))) (now (work .entry))) ⌝ }
 {
-    let v = typing::accept(book);
-    match v {
-        Verdict::Accepted(z) => run_accepted(book, packet, schedule, result, work, z.fields),
-        Verdict::Refused(why) => Ran::NotRun(why),
+    let mut out = [0u16; 128];
+    let e = evaluator::evaluate(book, packet, &mut out);
+    match e {
+        Evaluated::Given(o) => run_given(book, packet, schedule, result, work, o.room),
+        Evaluated::NotGiven(why) => {
+            Ran::NotRun(refusal_of(book, packet, schedule, result, work, why))
+        }
     }
 }

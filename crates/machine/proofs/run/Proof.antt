@@ -1,28 +1,34 @@
+-- `run` meets its contract: the evaluator's answer decides between the run and the refusal.
 use borrow.Author.Needs.{needs}
 use denote.Ref.{now}
-use mathlib.Core.Path.{sym, _∙_}
-use Rattle.machine.proofs.Running.{turned-away, refused-book, fields-are}
+use mathlib.Core.Path.{refl, sym, _∙_}
+use Rattle.machine.proofs.Running.{turned-away}
 use Rattle.machine.proofs.run.Statement.{statement}
 use Rattle.machine.proofs.run.Tie as tie
 
-accept-requires : tie.Need-accept-requires
-accept-requires c κs = search needs
+slice-aggregate-evaluate : tie.Need-slice-aggregate-evaluate
+slice-aggregate-evaluate c = search needs
 
-enum-known-v : tie.Need-enum-known-v
-enum-known-v c = search needs
+evaluate-requires : tie.Need-evaluate-requires
+evaluate-requires c κs = search needs
 
-run-accepted-requires : tie.Need-run-accepted-requires
-run-accepted-requires c κs =
-    let s = c .before .before .before .before .before .before .before .before .before .before .before in
-    let a = s .args in
-    let accept = c .before .before .before .before .before .accept in
-    let v = c .before .before .before .v in
-    let e = sym (accept .ensures) ∙ v .given .1 in
-    let f = fields-are (now a.book) (v .given .0 .0) e in
-    ((v .given .0 .0, e), f .0, f .1)
+enum-known-e : tie.Need-enum-known-e
+enum-known-e c = search needs
 
-enum-known-v-2 : tie.Need-enum-known-v-2
-enum-known-v-2 c = search needs
+run-given-requires : tie.Need-run-given-requires
+run-given-requires c κs =
+    let e = c .before .before .before .e in
+    let evaluate = c .before .before .before .before .before .before .evaluate in
+    record { outcome = e .given .0 .0; given = sym (evaluate .ensures .0) ∙ e .given .1; needs = refl }
+
+enum-known-e-2 : tie.Need-enum-known-e-2
+enum-known-e-2 c = search needs
+
+refusal-of-requires : tie.Need-refusal-of-requires
+refusal-of-requires c κs =
+    let e = c .before .before .before .e2 in
+    let evaluate = c .before .before .before .before .before .before .evaluate in
+    sym (e .given .1) ∙ evaluate .ensures .0
 
 same-length : tie.Need-same-length
 same-length c = search needs
@@ -32,29 +38,36 @@ same-length-2 c = search needs
 
 returns : tie.Need-returns
 returns c =
-    let run-accepted = c .before .before .before .before .run-accepted in
-    let q = run-accepted .ensures in (q .says, q .out, q .area)
+    let q = c .before .before .before .before .run-given .ensures in
+    (q .says, q .out, q .area)
+
+same-length-3 : tie.Need-same-length-3
+same-length-3 c = search needs
+
+same-length-4 : tie.Need-same-length-4
+same-length-4 c = search needs
 
 returns-2 : tie.Need-returns-2
 returns-2 c =
-    let s = c .before .before .before .before .before .before .before .before .before in
+    let s = c .before .before .before .before .before .before .before .before .before .before .before .before .before .before in
     let a = s .args in
-    let v2 = c .before .v2 in
-    let accept = c .before .before .before .accept in
-    let q = turned-away (now a.book) (now a.packet) (now a.schedule) (now a.result) (now a.work) (v2 .given .0 .0)
-    (refused-book (now a.book) (now a.packet) (now a.schedule) (now a.result) (now a.work) (v2 .given .0 .0) (accept .result)
-    (accept .ensures) (v2 .given .1)) in
+    let refused = c .refusal-of in
+    let q = turned-away (now a.book) (now a.packet) (now a.schedule) (now a.result) (now a.work) (refused .result) (refused .ensures) in
     (q .says, q .out, q .area)
 
 pub run-spec : {M : Type 1} → statement M
 run-spec =
     tie.close
     (tie.spec
-    accept-requires
-    enum-known-v
-    run-accepted-requires
-    enum-known-v-2
+    slice-aggregate-evaluate
+    evaluate-requires
+    enum-known-e
+    run-given-requires
+    enum-known-e-2
+    refusal-of-requires
     same-length
     same-length-2
     returns
+    same-length-3
+    same-length-4
     returns-2)
