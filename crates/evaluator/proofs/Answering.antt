@@ -21,7 +21,8 @@ use Rattle.rules.specs.Books.{mostDepth}
 use Rattle.rules.specs.Reading.{fieldsOf, bodyStart, useAt, partAt, mainOf, sizesOf, verdict}
 use Rattle.rules.specs.Working.{out, steps, room, width}
 use Rattle.rules.specs.Answers.{startSet, given, outcome, evaluated, evaluatedResult, overwritten}
-use Rattle.rules.proofs.Answering.{Granted, not-given-keeps, evaluated-refused, evaluated-packet, evaluated-buffer, evaluated-open, evaluated-wide, evaluated-given}
+use Rattle.rules.proofs.Answering.{Granted, not-given-keeps, evaluated-refused, evaluated-packet, evaluated-buffer}
+use Rattle.rules.proofs.Answering.{evaluated-open, evaluated-wide, evaluated-given}
 use Rattle.rules.proofs.AcceptedBooks.{accepted-sizes, accepted-fields, accepted-parts, accepted-deep}
 use Rattle.rows.specs.Chunks.{chunks, Held}
 use Rattle.rows.specs.Areas.{Emitted}

@@ -4,10 +4,10 @@ use mathlib.Core.Path.{_≡_, refl, sym, ap, _∙_}
 use mathlib.Core.Bool.{true}
 use mathlib.Core.List.{List, [], _∷_, _++_, map, append-assoc}
 use native.Mathlib.Omega.{arith}
-use lib.ListN.{length, take, drop, getD, set, replicate, length-append, length-take, length-drop, length-set, take-append-drop}
-use lib.Seq.{drop-cons, take-add, take-at, drop-at, drop-drop, take-take, length-take-le, take-set-lt, drop-set-lt, set-out}
+use lib.ListN.{length, take, drop, getD, replicate, length-append, length-drop, take-append-drop}
+use lib.Seq.{drop-cons, take-add, take-at, drop-at, drop-drop, take-take, length-take-le}
 use Rattle.rules.specs.declared.Order.the-variants.{Less, Same, More}
-use Rattle.rules.specs.Packets.{Packet, Packets, orderOf, Before, AllAfter, Ascending, put, insert, union, gathered}
+use Rattle.rules.specs.Packets.{Packet, Packets, orderOf, Before, AllAfter, Ascending, insert, union, gathered}
 use Rattle.rules.proofs.Orders.{order-refl, order-same, order-turned, before-trans}
 use Rattle.rules.proofs.Sets.{insert-ascending, length-union-le, length-union-more}
 use Rattle.rows.specs.Chunks.{chunks, rowAt, Packed, Held}
@@ -244,24 +244,17 @@ module _ (g : Packet → Packet) (x : List ℕ) (n j : ℕ) where
       gathering-next (gather-at a h) i
       (omega (arith, gathering-count (gather-at a h) i, gathered-few g (chunks n x), length-chunks n x))
 
--- ---- one packet alone, changed where it stands
+-- packet j of an array comes next, as it is
+module _ (x : List ℕ) (n j : ℕ) {w : List ℕ} {k : ℕ} {whole : Packets} (a : Gathering w k (drop j (chunks n x)) whole) where
+  pub next-at : j < n → Gathering w k (rowAt x j ∷ drop (j + 1) (chunks n x)) whole
+  next-at h = rw (rows-at n x j h) at a
 
-module _ {v : List ℕ} (q : Packed v 1) (f x : ℕ) where
-  abbrev alone : Packet → Packets
-  alone p = p ∷ []
+  pub next-end : n ≤ j → Held w k whole
+  next-end h = gathering-end (rw (rows-done n x j h) at a)
 
-  pub set-one : f < 8 → Held (set v f x) 1 (gathered (map (put f x) (chunks 1 v)))
-  unfolding chunks union insert put
-  set-one h =
-      let e : take 8 (set v f x) ≡ set (take 8 v) f x = take-set-lt 8 v f x h in
-      let z : drop 8 (set v f x) ≡ drop 8 v = drop-set-lt 8 v f x h in
-      record {
-        packed = record { size = length-set v f x ∙ q .size; room = omega arith; zeros = z ∙ q .zeros; order = (tt, tt) };
-        same = ap alone e;
-      }
-
-  pub set-none : 8 ≤ f → Held v 1 (gathered (map (put f x) (chunks 1 v)))
-  unfolding chunks union insert put
-  set-none h =
-      let l : length (take 8 v) ≤ f = simp length-take (omega arith) in
-      record { packed = q; same = ap alone (sym (set-out (take 8 v) f x l)) }
+-- never too many, where they are no more than 16 from the start
+pub next-few : (x : List ℕ) (n j : ℕ) {w w′ : List ℕ} {k r : ℕ} → Gathering w k (drop j (chunks n x)) (gathered (chunks n x))
+    → j < n → n ≤ 16 → Inserted w′ w k (rowAt x j) r → Gathering w′ r (drop (j + 1) (chunks n x)) (gathered (chunks n x))
+next-few x n j a h l i =
+    let few = length-union-more [] (chunks n x) in
+    gathering-next (next-at x n j a h) i (omega (arith, gathering-count (next-at x n j a h) i, few, length-chunks n x))

@@ -3,10 +3,11 @@ pub mod Chunks
 pub mod Fillings
 pub mod Comparing
 pub mod Inserting
-pub mod Merging
+pub mod Ascents
 pub mod Sliding
 pub mod Sifting
 pub mod Pairing
 pub mod Lending
 pub mod Emitting
 pub mod Words
+pub mod Writing

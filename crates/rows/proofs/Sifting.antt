@@ -13,10 +13,10 @@ use Rattle.rules.proofs.Orders.{order-same, order-turned, after-trans}
 use Rattle.rules.proofs.Sets.{after-out, after-not-in, lacks-in}
 use Rattle.rows.specs.Chunks.{chunks, rowAt, Packed}
 use Rattle.rows.specs.Arrays.{putRow}
-use Rattle.rows.specs.Merges.{toFirst}
+use Rattle.rows.specs.Inserts.{toFirst}
 use Rattle.rows.proofs.Chunks.{length-chunks, length-row, rows-at, rows-done}
 use Rattle.rows.proofs.Sliding.{Sliding, sliding-put, sliding-skip}
-use Rattle.rows.proofs.Merging.{ascending-drop, ascending-at}
+use Rattle.rows.proofs.Ascents.{ascending-drop, ascending-at}
 
 -- tests that agree on the packets keep the same ones
 pub keep-cong : (g h : Packet → Bool) (s : Packets) → ((b : Packet) → b ∈ s → g b ≡ h b) → keep g s ≡ keep h s

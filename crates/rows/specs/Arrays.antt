@@ -1,8 +1,10 @@
 -- What the helpers on an array of 128 values say: eight values read or stored, a packet put at a place.
 use Prim.Native.Nat.{ℕ, _+_, _*_, _-_}
-use mathlib.Core.List.{List, [], _∷_, _++_}
-use lib.ListN.{take, drop, getD, set, replicate}
-use Rattle.rules.specs.Packets.{Packet}
+use mathlib.Core.Path.{_≡_}
+use mathlib.Core.List.{List, [], _∷_, _++_, map}
+use lib.ListN.{length, take, drop, getD, set, replicate}
+use Rattle.rules.specs.Packets.{Packet, put}
+use Rattle.rows.specs.Chunks.{chunks}
 
 -- the packet of zeros
 abbrev pub blank : Packet
@@ -26,3 +28,9 @@ putRow w k p = take (k * 8) w ++ (p ++ drop (k * 8 + 8) w)
 -- the array with zeros for packets k to n - 1
 unfoldable pub cleared : List ℕ → ℕ → ℕ → List ℕ
 cleared v k n = take (k * 8) v ++ (replicate (n * 8 - k * 8) 0 ++ drop (n * 8) v)
+
+-- w is w₀ with the value x in field f of each of the first n packets
+pub record Written (w w₀ : List ℕ) (n f x : ℕ) : Type 0 where
+  pub size : length w ≡ 128
+  pub same : chunks n w ≡ map (put f x) (chunks n w₀)
+  pub tail : drop (n * 8) w ≡ drop (n * 8) w₀

@@ -1,9 +1,12 @@
--- What the helpers that put a packet into an array say: where it goes, the packets after it moved up, and the whole.
+-- What the helpers that put a packet into an array say: where it goes, the packets after it moved up, and the whole; and how a packet
+-- lies to others.
 use Prim.Native.Nat.{ℕ, _+_, _*_, _-_, _≤_, _<_}
 use mathlib.Core.Path.{_≡_}
-use mathlib.Core.List.{List, _∷_, _++_}
+use mathlib.Core.List.{List, [], _∷_, _++_}
 use lib.ListN.{length, take, drop}
-use Rattle.rules.specs.Packets.{Packet, Packets, insert, union}
+use Rattle.rules.specs.declared.Order.{Order}
+use Rattle.rules.specs.declared.Order.the-variants.{Less}
+use Rattle.rules.specs.Packets.{Packet, Packets, orderOf, insert, union}
 use Rattle.rows.specs.declared.Place.{Place}
 use Rattle.rows.specs.declared.Place.the-variants.{At, There}
 use Rattle.rows.specs.Chunks.{chunks, Packed}
@@ -30,3 +33,8 @@ pub record Joined (w w₀ : List ℕ) (k : ℕ) (t : Packets) (r : ℕ) : Type 0
   pub over : 16 < r → 16 < length (union (chunks k w₀) t)
   pub made : r ≤ 16 → Packed w r × (chunks r w ≡ union (chunks k w₀) t)
   pub size : length w ≡ 128
+
+-- how a packet lies to the first of some; before it, where there is none
+abbrev pub toFirst : Packet → Packets → Order
+toFirst x [] = Less
+toFirst x (y ∷ s) = orderOf x y

@@ -2,5 +2,4 @@
 pub mod Chunks
 pub mod Arrays
 pub mod Inserts
-pub mod Merges
 pub mod Areas

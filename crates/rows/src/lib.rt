@@ -1,17 +1,17 @@
 // Packets of eight values, and lent arrays with room for 16 of them, changed in place (document 01, "Packets and sets").
 // What every operation does is said on the list of an array's packets, in the words of the rules; nothing above touches a place.
 ghost use mathlib.Core.Path.{_≡_};
-ghost use mathlib.Core.Bool.{cond};
+ghost use mathlib.Core.Bool.{true, cond};
 ghost use mathlib.Core.List.{List, [], _∷_, _++_, map};
 ghost use Prim.Native.Nat.{ℕ, _+_, _*_, _<_, _≤_};
 ghost use lib.Seq.{paste};
 ghost use lib.ListN.{getD, length, take, drop};
-ghost use Rattle.rules.specs.Packets.{orderOf, passes, put, keep, insert, gathered, union, lacks, mix, without, pairs, valuesOf};
+ghost use Rattle.rules.specs.Packets.{orderOf, Ascending, passes, put, keep, insert, gathered, union, lacks, mix, without, pairs, valuesOf};
 ghost use Rattle.rules.specs.Masks.{has};
 ghost use Rattle.rows.specs.Chunks.{chunks, rowAt, Packed, Held, Fits};
-ghost use Rattle.rows.specs.Arrays.{eightAt, storedAt, putRow, cleared};
+ghost use Rattle.rows.specs.Arrays.{eightAt, storedAt, putRow, cleared, Written};
 ghost use Rattle.rows.specs.Inserts.{Placed, Shifted, Inserted, Joined};
-ghost use Rattle.rows.specs.Merges.{Leads, toFirst};
+ghost use Rattle.rows.specs.Inserts.{toFirst};
 ghost use Rattle.rows.specs.Areas.{within, wordsAt, pastedAt, Emitted};
 use rules::Order;
 
@@ -19,13 +19,6 @@ use rules::Order;
 enum Place {
     At(usize),
     There,
-}
-
-// The next packet of a merge, and where the two sets go on after it.
-struct Turn {
-    row: [u16; 8],
-    i: usize,
-    j: usize,
 }
 
 // The eight values at b.
@@ -201,110 +194,68 @@ pub fn insert_in(w: &mut [u16; 128], k: usize, p: [u16; 8]) -> usize
     }
 }
 
-// The first n packets of y with a field set, put into an array of zeros; what becomes equal is one.
-fn set_into(v: &mut [u16; 128], y: &[u16; 128], n: usize, f: usize, x: u16) -> usize
-    requires { ⌜ Held (now v) 0 [] × Packed (now y) n ⌝ }
-    ensures { λ r. ⌜ Held (now (v .exit)) r (gathered (map (put f x) (chunks n (now (y .entry))))) ⌝ }
+// A value written to a field of each of the first n packets; they may be out of order then.
+fn write_in(v: &mut [u16; 128], n: usize, f: usize, x: u16)
+    requires { ⌜ (f < 8) × (n ≤ 16) × (length (now v) ≡ 128) ⌝ }
+    ensures { λ _. ⌜ Written (now (v .exit)) (now (v .entry)) n f x ⌝ }
+{
+    let mut i = 0;
+    while i < n {
+        v[i * 8 + f] = x;
+        i += 1;
+    }
+}
+
+// The first n packets ascend, from the last on; false may say nothing.
+fn ascends(v: &[u16; 128], n: usize) -> bool
+    requires { ⌜ (1 ≤ n) × (n ≤ 16) × (length (now v) ≡ 128) ⌝ }
+    ensures { λ r. ⌜ (r ≡ true → Ascending (chunks n (now (v .entry)))) ⌝ }
+{
+    let mut i = n;
+    while 1 < i {
+        let o = order_at(v, (i - 2) * 8, v, (i - 1) * 8);
+        match o {
+            Order::Less => i -= 1,
+            Order::Same => return false,
+            Order::More => return false,
+        }
+    }
+    true
+}
+
+// The first n packets of y, in whatever order, put in their places into an array of zeros; what is equal is one.
+fn gather_into(v: &mut [u16; 128], y: &[u16; 128], n: usize) -> usize
+    requires { ⌜ Held (now v) 0 [] × (n ≤ 16) × (length (now y) ≡ 128) ⌝ }
+    ensures { λ r. ⌜ Held (now (v .exit)) r (gathered (chunks n (now (y .entry)))) ⌝ }
 {
     let mut j = 0;
     let mut k = 0;
     while j < n {
-        let p = put(row(y, j), f, x);
+        let p = row(y, j);
         k = insert_in(v, k, p);
         j += 1;
     }
     k
 }
 
-// The packets with a field set; what becomes equal is one. Of one packet only the one value changes.
+// The packets with a field set; what becomes equal is one. Where they still ascend, nothing but that field is touched.
 pub fn set_in(v: &mut [u16; 128], n: usize, f: usize, x: u16) -> usize
     requires { ⌜ Packed (now v) n ⌝ }
     ensures { λ r. ⌜ Held (now (v .exit)) r (gathered (map (put f x) (chunks n (now (v .entry))))) ⌝ }
 {
-    if n == 1 {
-        if f < 8 {
-            v[f] = x;
-        }
-        return 1;
+    if 8 <= f {
+        return n;
+    }
+    write_in(v, n, f, x);
+    if n < 2 {
+        return n;
+    }
+    if ascends(v, n) {
+        return n;
     }
     let y = *v;
     clear_rows(v, 0, n);
-    set_into(v, &y, n, f, x)
-}
-
-// The next packet of the union of the first n packets of a, from i on, and the first m of b, from j on.
-fn lead(a: &[u16; 128], i: usize, n: usize, b: &[u16; 128], j: usize, m: usize) -> Turn
-    requires { ⌜ (i ≤ n) × (j ≤ m) × (i + j < n + m) × Packed (now a) n × Packed (now b) m ⌝ }
-    ensures { λ t. ⌜ Leads t (chunks n (now (a .entry))) (chunks m (now (b .entry))) i j ⌝ }
-{
-    if j < m {
-        if i < n {
-            let o = order_at(a, i * 8, b, j * 8);
-            match o {
-                Order::Less => {
-                    let p = row(a, i);
-                    Turn {
-                        row: p,
-                        i: i + 1,
-                        j,
-                    }
-                }
-                Order::Same => {
-                    let p = row(a, i);
-                    Turn {
-                        row: p,
-                        i: i + 1,
-                        j: j + 1,
-                    }
-                }
-                Order::More => {
-                    let q = row(b, j);
-                    Turn {
-                        row: q,
-                        i,
-                        j: j + 1,
-                    }
-                }
-            }
-        } else {
-            let q = row(b, j);
-            Turn {
-                row: q,
-                i,
-                j: j + 1,
-            }
-        }
-    } else {
-        let p = row(a, i);
-        Turn {
-            row: p,
-            i: i + 1,
-            j,
-        }
-    }
-}
-
-// The packets of a and of b, put into an array of zeros; gives how many they are, or 17 and the zeros, where they are more than 16.
-fn merge_into(v: &mut [u16; 128], a: &[u16; 128], n: usize, b: &[u16; 128], m: usize) -> usize
-    requires { ⌜ Held (now v) 0 [] × Packed (now a) n × Packed (now b) m ⌝ }
-    ensures { λ r. ⌜ Fits (now (v .exit)) r (union (chunks n (now (a .entry))) (chunks m (now (b .entry)))) ⌝ }
-{
-    let mut i = 0;
-    let mut j = 0;
-    let mut k = 0;
-    while i + j < n + m {
-        if k == 16 {
-            clear_rows(v, 0, 16);
-            return 17;
-        }
-        let t = lead(a, i, n, b, j, m);
-        let p = t.row;
-        put_row(v, k, p);
-        i = t.i;
-        j = t.j;
-        k += 1;
-    }
-    k
+    gather_into(v, &y, n)
 }
 
 // The packets of b put in among the first n of v; gives how many they are then, or 17 and zeros, where they are more than 16.
@@ -312,9 +263,18 @@ pub fn union_in(v: &mut [u16; 128], n: usize, b: &[u16; 128], m: usize) -> usize
     requires { ⌜ Packed (now v) n × Packed (now b) m ⌝ }
     ensures { λ r. ⌜ Fits (now (v .exit)) r (union (chunks n (now (v .entry))) (chunks m (now (b .entry)))) ⌝ }
 {
-    let a = *v;
-    clear_rows(v, 0, n);
-    merge_into(v, &a, n, b, m)
+    let mut j = 0;
+    let mut k = n;
+    while j < m {
+        let p = row(b, j);
+        k = insert_in(v, k, p);
+        if 16 < k {
+            clear_rows(v, 0, 16);
+            return 17;
+        }
+        j += 1;
+    }
+    k
 }
 
 // How packet i of a lies to packet j of b, which has m; before it, where b has no such packet.

@@ -273,7 +273,8 @@ evaluate-part-table-at-requires t c κs =
     let start = c .before .before .before .before .before .before in
     let if1 = c .before .before .before .before .if1 in
     let if2 = c .before .before .before .if2 in
-    let e = enter (stands-table _ _ _ _ (if1 .left) (if2 .left) (c .before .match .keys8)) t (start .pre .0) (start .pre .1 .0) (start .pre .1 .1) in
+    let e = enter (stands-table _ _ _ _ (if1 .left) (if2 .left) (c .before .match .keys8)) t (start .pre .0) (start .pre .1 .0)
+    (start .pre .1 .1) in
     (e .0, (if2 .left, e .1 .0, e .1 .1))
 
 evaluate-part-add-leaf : (t : ℕ) → evaluate-part-lts.Need-add-leaf (evaluate-part-calls t) (evaluate-part-at t) evaluate-part.Post
@@ -407,7 +408,7 @@ one-packet-byte-at-requires-2 t c κs = search needs
 one-packet-alone-requires : (t : ℕ) → one-packet-lts.Need-alone-requires (one-packet-calls t) (one-packet-at t) one-packet.Post
 one-packet-alone-requires t c κs =
     let start = c .before .before .before .before in
-    (start .pre .1 .1, start .pre .1 .2, zeros-held)
+    (omega (arith, start .pre .1 .1), start .pre .1 .2, zeros-held)
 
 one-packet-add-evaluate-part : (t : ℕ) → one-packet-lts.Need-add-evaluate-part (one-packet-calls t) (one-packet-at t) one-packet.Post
 one-packet-add-evaluate-part t c = search needs
@@ -424,12 +425,13 @@ one-packet-returns t c =
     let byte-at2 = c .before .before .before .before .before .byte-at2 in
     let alone = c .before .before .before .alone in
     let evaluate-part = c .before .evaluate-part in
-    over-beside-left (on-alone _ _ (rowAt (start .args .v .now) (start .args .i)) (alone .ensures) (byte-at2 .ensures) (evaluate-part .ensures)) (c .if1 .taken)
+    over-beside-left (on-alone _ _ (rowAt (start .args .v .now) (start .args .i)) (alone .ensures) (byte-at2 .ensures)
+    (evaluate-part .ensures)) (c .if1 .taken)
 
 one-packet-alone-requires-2 : (t : ℕ) → one-packet-lts.Need-alone-requires-2 (one-packet-calls t) (one-packet-at t) one-packet.Post
 one-packet-alone-requires-2 t c κs =
     let start = c .before .before .before .before .before .before .before .before .before in
-    (start .pre .1 .1, start .pre .1 .2, zeros-held)
+    (omega (arith, start .pre .1 .1), start .pre .1 .2, zeros-held)
 
 one-packet-evaluate-part-requires-2 : (t : ℕ)
     → one-packet-lts.Need-evaluate-part-requires-2 (one-packet-calls t) (one-packet-at t) one-packet.Post
@@ -442,18 +444,19 @@ one-packet-evaluate-part-requires-2 t c κs =
 
 one-packet-returns-2 : (t : ℕ) → one-packet-lts.Need-returns-2 (one-packet-calls t) (one-packet-at t) one-packet.Post
 one-packet-returns-2 t c =
-    let start = c .before .before .before .before .before .before .before .before .before .before .before .before .before in
-    let byte-at = c .before .before .before .before .before .before .before .before .before .before .before .byte-at in
+    let mid = c .before .before .before .before .before .before .before .before .before .before in
+    let start = mid .before .before .before in
     let evaluate-part = c .before .before .before .before .before .before .evaluate-part in
     let if1 = c .before .before .before .before .before .if1 in
     let alone2 = c .before .before .before .alone2 in
     let evaluate-part2 = c .before .evaluate-part2 in
-    over-beside-right (on-alone _ _ (rowAt (start .args .v .now) (start .args .i)) (alone2 .ensures) (byte-at .ensures)
+    over-beside-right (on-alone _ _ (rowAt (start .args .v .now) (start .args .i)) (alone2 .ensures) (mid .before .byte-at .ensures)
     (goes-on _ _ _ _ (evaluate-part .ensures) (if1 .left) (evaluate-part2 .ensures))) (c .if2 .taken)
 
 one-packet-pairs-into-requires : (t : ℕ) → one-packet-lts.Need-pairs-into-requires (one-packet-calls t) (one-packet-at t) one-packet.Post
 one-packet-pairs-into-requires t c κs =
-    let start = c .before .before .before .before .before .before .before .before .before .before .before .before .before .before .before .before in
+    let mid = c .before .before .before .before .before .before .before .before .before .before in
+    let start = mid .before .before .before .before .before .before in
     let evaluate-part = c .before .before .before .before .before .before .before .before .before .evaluate-part in
     let if1 = c .before .before .before .before .before .before .before .before .if1 in
     let evaluate-part2 = c .before .before .before .before .evaluate-part2 in
@@ -465,8 +468,9 @@ one-packet-pairs-into-requires t c κs =
 
 one-packet-joined-requires : (t : ℕ) → one-packet-lts.Need-joined-requires (one-packet-calls t) (one-packet-at t) one-packet.Post
 one-packet-joined-requires t c κs =
-    let start = c .before .before .before .before .before .before .before .before .before .before .before .before .before .before .before .before .before in
-    let evaluate-part = c .before .before .before .before .before .before .before .before .before .before .evaluate-part in
+    let mid = c .before .before .before .before .before .before .before .before .before .before in
+    let start = mid .before .before .before .before .before .before .before in
+    let evaluate-part = mid .evaluate-part in
     let if1 = c .before .before .before .before .before .before .before .before .before .if1 in
     let evaluate-part2 = c .before .before .before .before .before .evaluate-part2 in
     let if2 = c .before .before .before .before .if2 in (
@@ -476,12 +480,13 @@ one-packet-joined-requires t c κs =
 
 one-packet-returns-3 : (t : ℕ) → one-packet-lts.Need-returns-3 (one-packet-calls t) (one-packet-at t) one-packet.Post
 one-packet-returns-3 t c =
-    let start = c .before .before .before .before .before .before .before .before .before .before .before .before .before .before .before .before .before .before in
-    let byte-at = c .before .before .before .before .before .before .before .before .before .before .before .before .before .before .before .before .byte-at in
-    let byte-at2 = c .before .before .before .before .before .before .before .before .before .before .before .before .before .before .before .byte-at2 in
-    let alone = c .before .before .before .before .before .before .before .before .before .before .before .before .before .alone in
-    let evaluate-part = c .before .before .before .before .before .before .before .before .before .before .before .evaluate-part in
-    let if1 = c .before .before .before .before .before .before .before .before .before .before .if1 in
+    let mid = c .before .before .before .before .before .before .before .before .before .before in
+    let start = mid .before .before .before .before .before .before .before .before in
+    let byte-at = mid .before .before .before .before .before .before .byte-at in
+    let byte-at2 = mid .before .before .before .before .before .byte-at2 in
+    let alone = mid .before .before .before .alone in
+    let evaluate-part = mid .before .evaluate-part in
+    let if1 = mid .if1 in
     let alone2 = c .before .before .before .before .before .before .before .before .alone2 in
     let evaluate-part2 = c .before .before .before .before .before .before .evaluate-part2 in
     let if2 = c .before .before .before .before .before .if2 in
@@ -516,7 +521,8 @@ seq-at-returns-2 t c =
     let evaluate-part = c .before .before .before .before .evaluate-part in
     let if1 = c .before .before .before .if1 in
     let evaluate-part2 = c .before .evaluate-part2 in
-    over-seq-right (evaluate-part .ensures) (if1 .left) (goes-on _ _ _ _ (evaluate-part .ensures) (if1 .left) (evaluate-part2 .ensures)) (c .if2 .taken)
+    over-seq-right (evaluate-part .ensures) (if1 .left) (goes-on _ _ _ _ (evaluate-part .ensures) (if1 .left) (evaluate-part2 .ensures))
+    (c .if2 .taken)
 
 seq-at-seq-of-requires : (t : ℕ) → seq-at-lts.Need-seq-of-requires (seq-at-calls t) (seq-at-at t) seq-at.Post
 seq-at-seq-of-requires t c κs =
@@ -533,7 +539,8 @@ seq-at-returns-3 t c =
     let evaluate-part = c .before .before .before .before .before .evaluate-part in
     let if1 = c .before .before .before .before .if1 in
     let evaluate-part2 = c .before .before .evaluate-part2 in
-    did-seq-at (evaluate-part .ensures) (if1 .left) (goes-on _ _ _ _ (evaluate-part .ensures) (if1 .left) (evaluate-part2 .ensures)) (c .before .if2 .left) (c .seq-of .ensures)
+    did-seq-at (evaluate-part .ensures) (if1 .left) (goes-on _ _ _ _ (evaluate-part .ensures) (if1 .left) (evaluate-part2 .ensures))
+    (c .before .if2 .left) (c .seq-of .ensures)
 
 abbrev sum-at-calls : ℕ → sum-at-lts.Claims
 sum-at-calls t = (
@@ -692,7 +699,8 @@ walk-packets-none-at-requires t c κs = c .before .before .pre .1 .0
 walk-packets-returns : (t : ℕ) → walk-packets-lts.Need-returns (walk-packets-calls t) (walk-packets-at t) walk-packets.Post
 walk-packets-returns t c =
     let start = c .before .before .before in
-    walk-none (start .args .v .now) (start .args .n) (start .args .i) (c .before .if1 .taken) (c .none-at .ensures _ _ _ _ _ (start .pre .1 .3))
+    walk-none (start .args .v .now) (start .args .n) (start .args .i) (c .before .if1 .taken)
+    (c .none-at .ensures _ _ _ _ _ (start .pre .1 .3))
 
 walk-packets-one-packet-requires : (t : ℕ)
     → walk-packets-lts.Need-one-packet-requires (walk-packets-calls t) (walk-packets-at t) walk-packets.Post
@@ -700,14 +708,22 @@ walk-packets-one-packet-requires t c κs =
     let start = c .before .before .before in
     let if1 = c .before .if1 in (
       omega (arith, start .pre .0, if1 .left, start .pre .1 .1, start .pre .1 .2 .room),
-      (start .pre .1 .0, omega (arith, if1 .left, start .pre .1 .1, start .pre .1 .2 .room), start .pre .1 .2 .size, start .pre .1 .3, start .pre .1 .4),
+      (
+        start .pre .1 .0,
+        omega
+            (arith, if1 .left, start .pre .1 .1, start .pre .1 .2 .room),
+        start .pre .1 .2 .size,
+        start .pre .1 .3,
+        start .pre .1 .4,
+      ),
     )
 
 walk-packets-returns-2 : (t : ℕ) → walk-packets-lts.Need-returns-2 (walk-packets-calls t) (walk-packets-at t) walk-packets.Post
 walk-packets-returns-2 t c =
     let start = c .before .before .before .before .before in
     let if1 = c .before .before .before .if1 in
-    walk-over (start .args .v .now) (start .args .n) (start .args .i) (omega (arith, if1 .left, start .pre .1 .1)) (c .before .one-packet .ensures) (c .if2 .taken)
+    walk-over (start .args .v .now) (start .args .n) (start .args .i) (omega (arith, if1 .left, start .pre .1 .1))
+    (c .before .one-packet .ensures) (c .if2 .taken)
 
 walk-packets-add-if3 : (t : ℕ) → walk-packets-lts.Need-add-if3 (walk-packets-calls t) (walk-packets-at t) walk-packets.Post
 walk-packets-add-if3 t c = search needs
@@ -717,7 +733,8 @@ walk-packets-returns-3 t c =
     let start = c .before .before .before .before .before .before in
     let if1 = c .before .before .before .before .if1 in
     let one-packet = c .before .before .one-packet in
-    walk-last (start .args .v .now) (start .args .n) (start .args .i) (omega (arith, if1 .left, start .pre .1 .1)) (one-packet .ensures) (c .if3 .taken)
+    walk-last (start .args .v .now) (start .args .n) (start .args .i) (omega (arith, if1 .left, start .pre .1 .1)) (one-packet .ensures)
+    (c .if3 .taken)
 
 walk-packets-add-walk-packets : (t : ℕ)
     → walk-packets-lts.Need-add-walk-packets (walk-packets-calls t) (walk-packets-at t) walk-packets.Post
@@ -737,7 +754,8 @@ walk-packets-returns-4 t c =
     let start = c .before .before .before .before .before .before .before .before .before in
     let if1 = c .before .before .before .before .before .before .before .if1 in
     let walk-packets = c .before .walk-packets in
-    walk-rest (start .args .v .now) (start .args .n) (start .args .i) (omega (arith, if1 .left, start .pre .1 .1)) (walk-packets .ensures) (c .if4 .taken)
+    walk-rest (start .args .v .now) (start .args .n) (start .args .i) (omega (arith, if1 .left, start .pre .1 .1))
+    (walk-packets .ensures) (c .if4 .taken)
 
 walk-packets-union-in-requires : (t : ℕ)
     → walk-packets-lts.Need-union-in-requires (walk-packets-calls t) (walk-packets-at t) walk-packets.Post
@@ -761,15 +779,18 @@ walk-packets-joined-requires t c κs =
 
 walk-packets-returns-5 : (t : ℕ) → walk-packets-lts.Need-returns-5 (walk-packets-calls t) (walk-packets-at t) walk-packets.Post
 walk-packets-returns-5 t c =
-    let start = c .before .before .before .before .before .before .before .before .before .before .before .before .before in
-    let if1 = c .before .before .before .before .before .before .before .before .before .before .before .if1 in
+    let mid = c .before .before .before .before .before .before .before .before .before .before in
+    let start = mid .before .before .before in
+    let if1 = mid .before .if1 in
     let one-packet = c .before .before .before .before .before .before .before .before .before .one-packet in
     let if2 = c .before .before .before .before .before .before .before .before .if2 in
     let if3 = c .before .before .before .before .before .before .before .if3 in
     let walk-packets = c .before .before .before .before .before .walk-packets in
     let if4 = c .before .before .before .before .if4 in
-    walk-split (start .args .v .now) (start .args .n) (start .args .i) (omega (arith, if1 .left, start .pre .1 .1)) (one-packet .ensures) (start .pre .1 .2) (if2 .left)
-    (omega (arith, if1 .left, if3 .left, start .pre .1 .1)) (walk-packets .ensures) (if4 .left) (c .joined .ensures) (c .before .union-in .ensures)
+    walk-split (start .args .v .now) (start .args .n) (start .args .i) (omega (arith, if1 .left, start .pre .1 .1))
+    (one-packet .ensures) (start .pre .1 .2) (if2 .left)
+    (omega (arith, if1 .left, if3 .left, start .pre .1 .1)) (walk-packets .ensures) (if4 .left) (c .joined .ensures)
+    (c .before .union-in .ensures)
 
 pub +beside-at+evaluate-part+not-at+one-packet+seq-at+sum-at+table-at+walk-packets-spec : {M : Type 1} → statement M
 +beside-at+evaluate-part+not-at+one-packet+seq-at+sum-at+table-at+walk-packets-spec =

@@ -12,7 +12,8 @@ use Rattle.evaluator.proofs.evaluate_accepted.Statement.{statement}
 use Rattle.evaluator.proofs.evaluate_accepted.Tie as tie
 
 -- no table that is named is unpopulated
-closed : (c : tie.After-v) → namesOpen (mainOf (c .before .before .before .before .before .before .before .before .before .args .book .now)) ≡ false
+closed : (c : tie.After-v) → let s = c .before .before .before .before .before .before .before .before .before in
+    namesOpen (mainOf (s .args .book .now)) ≡ false
 closed c =
     let l = c .before .before in
     open-is _ _ (l .before .body-start .ensures .0) (l .look-part .ensures) ∙ c .before .if3 .left
@@ -35,7 +36,8 @@ evaluate-part-requires : tie.Need-evaluate-part-requires
 evaluate-part-requires c κs =
     let v = c .before .before in
     let b = v .before .before .before in
-    (main-fair _ _ (b .body-start .ensures .0) _ (b .before .before .before .before .before .before .pre) (closed v), c .before .start-in .ensures .packed)
+    let s = b .before .before .before .before .before .before in
+    (main-fair _ _ (b .body-start .ensures .0) _ (s .pre) (closed v), c .before .start-in .ensures .packed)
 
 returns-4 : tie.Need-returns-4
 returns-4 c =
@@ -56,7 +58,8 @@ returns-5 c =
     let b = v .before .before .before in
     let i = b .before in
     given-is _ _ _ _ (i .before .before .before .before .before .pre) (i .before .if1 .left) (i .if2 .left) (closed v)
-    (main-did _ _ (b .body-start .ensures .0) _ (s .start-in .ensures) (e .evaluate-part .ensures)) (f .if4 .left) _ _ (o .emit-rows .ensures)
+    (main-did _ _ (b .body-start .ensures .0) _ (s .start-in .ensures) (e .evaluate-part .ensures)) (f .if4 .left) _ _
+    (o .emit-rows .ensures)
 
 pub evaluate-accepted-spec : {M : Type 1} → statement M
 evaluate-accepted-spec =

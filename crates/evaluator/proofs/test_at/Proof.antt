@@ -18,5 +18,6 @@ test-at-spec =
     (λ c κs. search needs)
     (λ c.
     let s = c .before .before .before .before .before .before in
-    let k = rw (c .before .before .before .before .byte-at .ensures, c .before .before .before .number-at .ensures) at (c .before .keep-in .ensures) in
+    let x = c .before .before .before in
+    let k = rw (x .before .byte-at .ensures, x .number-at .ensures) at (c .before .keep-in .ensures) in
     rw (c .leaf .ensures) (did-test (s .pre .1) _ _ _ k)))

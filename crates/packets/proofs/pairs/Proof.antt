@@ -5,7 +5,7 @@ use Rattle.packets.proofs.pairs.Statement.{statement}
 use Rattle.packets.proofs.pairs.Tie as tie
 
 pairs-into-requires : tie.Need-pairs-into-requires
-pairs-into-requires c κs = let s = c .before .before .before .before .before in (zeros-held, s .pre .0, s .pre .1)
+pairs-into-requires c κs = (zeros-held, search needs, search needs)
 
 pub pairs-spec : {M : Type 1} → statement M
 pairs-spec =

@@ -6,7 +6,7 @@ use lib.ListN.{drop}
 use Rattle.rules.specs.Packets.{keep, lacks}
 use Rattle.rules.proofs.Sets.{keep-ascending}
 use Rattle.rows.specs.Chunks.{chunks, rowAt}
-use Rattle.rows.specs.Merges.{toFirst}
+use Rattle.rows.specs.Inserts.{toFirst}
 use Rattle.rows.proofs.Sliding.{Sliding, sliding-start, sliding-row, keep-end}
 use Rattle.rows.proofs.Sifting.{sifted-less, sifted-same, sifted-more}
 use borrow.Author.Needs.{needs}

@@ -1,39 +1,44 @@
--- One packet is changed where it stands, more are gathered anew.
-use mathlib.Core.Path.{sym}
-use Rattle.rows.proofs.Inserting.{set-one, set-none}
-use Rattle.rows.proofs.Sliding.{cleared-packed}
+-- The packets written where they stand; where they do not ascend then, they are gathered anew.
+use mathlib.Core.Path.{_≡_}
+use native.Mathlib.Omega.{arith}
+use Rattle.rows.proofs.Ascents.{ascends-short}
+use Rattle.rows.proofs.Writing.{none-written, written-held, written-cleared, written-anew}
 use borrow.Author.Needs.{needs}
 use Rattle.rows.proofs.set_in.Statement.{statement}
 use Rattle.rows.proofs.set_in.Tie as tie
 
-returns : tie.Need-returns
-returns c =
-    let s = c .before .before in
-    let e = c .before .if1 .taken in
-    rw e (set-one (rw e at (s .pre)) (s .args .f) (s .args .x) (search needs))
-
 returns-2 : tie.Need-returns-2
 returns-2 c =
-    let s = c .before .before in
-    let e = c .before .if1 .taken in
-    rw e (set-none (rw e at (s .pre)) (s .args .f) (s .args .x) (search needs))
-
-set-into-requires : tie.Need-set-into-requires
-set-into-requires c κs =
-    let s = c .before .before .before .before .before .before in
-    (rw (c .before .before .clear-rows .ensures) (cleared-packed (s .pre)), s .pre)
+    let w = c .before in
+    written-held (w .write-in .ensures) (w .before .before .before .pre) (ascends-short _ _ (c .if2 .taken))
 
 returns-3 : tie.Need-returns-3
-returns-3 c = c .set-into .ensures
+returns-3 c =
+    let a = c .before in
+    let w = a .before .before .before in
+    written-held (w .write-in .ensures) (w .before .before .before .pre) (a .ascends .ensures (c .if3 .taken))
+
+gather-into-requires : tie.Need-gather-into-requires
+gather-into-requires c κs =
+    let l = c .before .before in
+    let w = l .before .before .before .before .before .before .before in
+    let s = w .before .before .before in
+    (rw (l .clear-rows .ensures) (written-cleared (w .write-in .ensures) (s .pre)), s .pre .room, w .write-in .ensures .size)
+
+returns-4 : tie.Need-returns-4
+returns-4 c =
+    let w = c .before .before .before .before .before .before .before .before .before .before in
+    written-anew (w .write-in .ensures) (c .gather-into .ensures)
 
 pub set-in-spec : {M : Type 1} → statement M
 set-in-spec =
     tie.close
     (tie.spec
-    (λ c. search needs)
-    (λ c. search needs)
-    returns
+    (λ c. none-written _ _ (c .if1 .taken) (c .before .pre))
+    (λ c κs. search needs)
     returns-2
     (λ c κs. search needs)
-    set-into-requires
-    returns-3)
+    returns-3
+    (λ c κs. search needs)
+    gather-into-requires
+    returns-4)
