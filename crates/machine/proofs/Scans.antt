@@ -115,6 +115,26 @@ module _ {X : Type 0} where
   nth-drop k (suc i) [] h = absurd (omega arith)
   nth-drop k (suc i) (n ∷ ns) h = nth-drop k i ns (omega arith)
 
+  count-suffix : (i : ℕ) (l : List (Node X)) → count (drop i l) ≤ count l
+  count-suffix zero l = omega arith
+  count-suffix (suc i) [] = omega arith
+  count-suffix (suc i) (n ∷ ns) = omega (arith, count-suffix i ns)
+
+  -- a ready node is known by how many are ready after it
+  pub nth-after : (i : ℕ) (l : List (Node X)) (k : ℕ) → i < length l → rdL (drop i l) ≡ true → count l ≡ suc (k + count (drop (suc i) l))
+      → nth k l ≡ i
+  nth-after i [] k h r e = absurd (omega arith)
+  nth-after zero (n ∷ ns) k h r e =
+      let z : k ≡ 0 = omega (arith, ap b2n r) in
+      ap (λ (b : Bool). nthB b k (λ j. nth j ns)) r ∙ ap (λ (j : ℕ). nthB true j (λ j. nth j ns)) z
+  nth-after (suc i) (n ∷ ns) k h r e = go (λ j d. nth-after i ns j (omega arith) r d) (rd n ns) k e
+    where
+      go : ((j : ℕ) → count ns ≡ suc (j + count (drop (suc i) ns)) → nth j ns ≡ i) → (b : Bool) (k : ℕ)
+          → b2n b + count ns ≡ suc (k + count (drop (suc i) ns)) → nthB b k (λ j. nth j ns) ≡ suc i
+      go ih true zero e = absurd (omega (arith, count-suffix i ns, count-drop i ns (omega arith), ap b2n r))
+      go ih true (suc k) e = ap suc (ih k (omega arith))
+      go ih false k e = ap suc (ih k (omega arith))
+
 -- the same over the words, at the code's i + 1, with the flag that the code has
 pub count-turn : (w : List ℕ) (live : ℕ) (c : live ≤ 160) (i : ℕ) (b : Bool) → i < live → b ≡ rdL (drop i (marks w live))
     → count (drop i (marks w live)) ≡ b2n b + count (drop (i + 1) (marks w live))
@@ -158,3 +178,19 @@ and-true {b} {p} {q} {r} e f t = e ∙ ap (λ (x : Bool). x && q) (sym t ∙ f)
 
 pub and-false : {b p : Bool} (q : Bool) → b ≡ p → b ≡ false → b ≡ (p && q)
 and-false {b} {p} q f t = t ∙ ap (λ (x : Bool). x && q) (sym t ∙ f)
+
+-- looked for from the right: what is passed, and what is found, at the code's i - 1
+module _ (w : List ℕ) (live : ℕ) (c : live ≤ 160) (i : ℕ) (b : Bool) (some : 0 < i) (h : i ≤ live)
+    (e : b ≡ rdL (drop (i - 1) (marks w live))) where
+  pub count-back : count (drop (i - 1) (marks w live)) ≡ b2n b + count (drop i (marks w live))
+  count-back =
+      let z : i - 1 + 1 ≡ i = omega arith in
+      count-turn w live c (i - 1) b (omega arith) e ∙ ap (λ (j : ℕ). b2n b + count (drop j (marks w live))) z
+
+  pub found-back : (k : ℕ) → b ≡ true → k ≡ count (drop i (marks w live)) → i - 1 ≡ nth (count (marks w live) - 1 - k) (marks w live)
+  found-back k f z =
+      let M : List (Node Pos) = marks w live in
+      let l : length M ≡ live = length-marks w live c in
+      let y : suc (i - 1) ≡ i = omega arith in
+      let n : count (drop (suc (i - 1)) M) ≡ count (drop i M) = ap (λ (j : ℕ). count (drop j M)) y in
+      sym (nth-after (i - 1) M (count M - 1 - k) (omega arith) (sym e ∙ f) (omega (arith, ap b2n f, count-back, count-suffix (i - 1) M)))

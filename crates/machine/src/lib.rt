@@ -11,7 +11,7 @@ use rules::Verdict;
 ghost use mathlib.Core.Path.{_≡_};
 ghost use mathlib.Core.List.{List, [], _∷_, _++_};
 ghost use mathlib.Core.Bool.{true};
-ghost use Prim.Native.Nat.{ℕ, _+_, _-_, _*_, _≤_, _<_};
+ghost use Prim.Native.Nat.{ℕ, _+_, _-_, _*_, _%_, _≤_, _<_};
 ghost use lib.ListN.{length, drop, take, getD, replicate, set};
 ghost use lib.Seq.{paste};
 ghost use Rattle.rules.specs.Masks.{allFields};
@@ -360,6 +360,37 @@ fn nth_ready(work: &[u16], live: usize, k: usize) -> usize
         i += 1;
     }
     i
+}
+
+// The index of the ready position after which `k` others are ready.
+fn nth_from_right(work: &[u16], live: usize, k: usize) -> usize
+    requires { ⌜ (live ≤ 160) × (21760 ≤ length (now work)) × (k < count (marks (now work) live)) ⌝ }
+    ensures { λ r. ⌜ r ≡ nth (count (marks (now (work .entry)) live) - 1 - k) (marks (now (work .entry)) live) ⌝ }
+{
+    let mut left = k;
+    let mut i = live;
+    while i > 0 {
+        i -= 1;
+        if ready_at(work, live, i) {
+            if left == 0 {
+                return i;
+            }
+            left -= 1;
+        }
+    }
+    i
+}
+
+// The index of the ready position that byte b picks, looked for from the nearer end.
+fn picked(work: &[u16], live: usize, ready: usize, b: u8) -> usize
+    requires { ⌜ (live ≤ 160) × (21760 ≤ length (now work)) × (ready ≡ count (marks (now work) live)) × (0 < ready) ⌝ }
+    ensures { λ r. ⌜ r ≡ nth (b % ready) (marks (now (work .entry)) live) ⌝ }
+{
+    let k = b as usize % ready;
+    if k < ready / 2 {
+        return nth_ready(work, live, k);
+    }
+    nth_from_right(work, live, ready - 1 - k)
 }
 
 // Where position i stands: the place of its part's code byte, and the mask of its fields.
@@ -761,7 +792,7 @@ fn advance(book: &[u8], work: &mut [u16], c: Tally, b: u8) -> Tally
     if ready == 0 {
         return c;
     }
-    let i = nth_ready(work, c.live, b as usize % ready);
+    let i = picked(work, c.live, ready, b);
     step_counted(book, work, c, i)
 }
 
