@@ -1,9 +1,11 @@
 //! Runs another printer on fresh inputs and compares what it prints with what this one prints.
 
 use crate::edges;
-use crate::generate::printer_input;
+use crate::generate::{input_of, printer_input};
+use crate::policy::{book_of, set, sum};
 use crate::printer::print;
 use crate::rng::Rng;
+use crate::trials;
 use std::io::{self, Write};
 use std::process::{Command, Output, Stdio};
 use std::sync::atomic::{AtomicU64, Ordering};
@@ -18,9 +20,45 @@ pub struct Difference {
     pub found: String,
 }
 
+/// Inputs cut at each place, lengths that say too much, schedules about the longest, and document 01's
+/// trials.
+pub fn printer_edges() -> Vec<Vec<u8>> {
+    let whole = input_of(&book_of(2, &sum(set(0, 1), set(1, 2))), &[5, 9], &[]);
+    let mut inputs: Vec<Vec<u8>> = (0..=whole.len()).map(|cut| whole[..cut].to_vec()).collect();
+    for stated in [[0x10, 0x00], [0x10, 0x01], [0xFF, 0xFF], [0x00, 0x00], [0x00, 0x01]] {
+        inputs.push(stated.to_vec());
+        inputs.push([&stated[..], &whole[2..]].concat());
+    }
+    for length in [8191, 8192, 8193, 9000] {
+        inputs.push([&whole[..], &vec![1; length]].concat());
+    }
+    let trials = trials::all();
+    inputs.extend(trials.iter().map(|trial| {
+        let vector = &trial.vector;
+        input_of(&vector.book, &vector.packet, &vector.schedule)
+    }));
+    inputs
+}
+
+/// Input number `number` of a seed: the edges come first.
+fn input(seed: u64, number: u64, edge_inputs: &[Vec<u8>], edge_books: &[Vec<u8>]) -> Vec<u8> {
+    let edge = edge_inputs.get(number as usize).cloned();
+    edge.unwrap_or_else(|| printer_input(&mut Rng::for_case(seed, number), edge_books))
+}
+
+/// How often each number is printed, 0 counting what is no refusal.
+pub type Tally = [u64; 15];
+
+fn number_in(printed: &[u8]) -> usize {
+    let text = String::from_utf8_lossy(printed);
+    let refused = text.strip_prefix("refused ").and_then(|rest| rest.split(' ').next()?.parse().ok());
+    refused.unwrap_or(0)
+}
+
 /// Runs the program on the inputs 0 to count - 1 of the seed, on all processors.
-pub fn compare(program: &str, seed: u64, count: u64) -> io::Result<Vec<Difference>> {
-    let edge_books = edges::books();
+pub fn compare(program: &str, seed: u64, count: u64) -> io::Result<(Vec<Difference>, Tally)> {
+    let (edge_inputs, edge_books) = (printer_edges(), edges::books());
+    let tally = [const { AtomicU64::new(0) }; 15];
     let next = AtomicU64::new(0);
     let differences = Mutex::new(Vec::new());
     let work = || -> io::Result<()> {
@@ -29,8 +67,10 @@ pub fn compare(program: &str, seed: u64, count: u64) -> io::Result<Vec<Differenc
             if number >= count {
                 return Ok(());
             }
-            let input = printer_input(&mut Rng::for_case(seed, number), &edge_books);
-            if let Some(difference) = compare_one(program, number, input)? {
+            let input = input(seed, number, &edge_inputs, &edge_books);
+            let expected = print(&input);
+            tally[number_in(&expected)].fetch_add(1, Ordering::Relaxed);
+            if let Some(difference) = compare_one(program, number, input, expected)? {
                 differences.lock().expect("no thread panics").push(difference);
             }
         }
@@ -42,11 +82,15 @@ pub fn compare(program: &str, seed: u64, count: u64) -> io::Result<Vec<Differenc
     })?;
     let mut differences = differences.into_inner().expect("no thread panics");
     differences.sort_by_key(|difference| difference.number);
-    Ok(differences)
+    Ok((differences, tally.map(AtomicU64::into_inner)))
 }
 
-fn compare_one(program: &str, number: u64, input: Vec<u8>) -> io::Result<Option<Difference>> {
-    let expected = print(&input);
+fn compare_one(
+    program: &str,
+    number: u64,
+    input: Vec<u8>,
+    expected: Vec<u8>,
+) -> io::Result<Option<Difference>> {
     let output = output_of(program, &input)?;
     // A program that a signal ends has no exit code: that differs, whatever it printed before.
     if output.stdout == expected && output.status.code().is_some() {

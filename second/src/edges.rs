@@ -375,13 +375,15 @@ fn sizes() -> Vec<Edge> {
         let table = of_length(total - 2 - 4 * 2 - 1);
         write_book(1, &[Entry::new(0, 1, &Policy::Drop), Entry::new(0, 0, &table)])
     };
-    let mut edges: Vec<Edge> = [vec![], vec![1], vec![9], vec![1, 0], vec![0, 0], vec![8, 15], vec![8, 16]]
+    let mut edges: Vec<Edge> = [vec![], vec![1, 0], vec![0, 0], vec![8, 15], vec![8, 16]]
         .into_iter()
         .map(|book| edge(book, &[1]))
         .collect();
+    edges.extend([0, 1, 2, 4, 8, 9, 16, 64, 128, 255].map(|byte| edge(vec![byte], &[1])));
     edges.push(edge(filled(4095), &[1]));
     edges.push(edge(filled(4096), &[1]));
     edges.push(edge(filled(4097), &[1]));
+    edges.push(edge(filled(4098), &[1]));
     let example = book_of(2, &example());
     for cut in 2..example.len() {
         edges.push(edge(example[..cut].to_vec(), &[5, 9]));

@@ -18,6 +18,7 @@ pub mod policy;
 pub mod printer;
 pub mod rng;
 pub mod sets;
+pub mod trials;
 pub mod typing;
 pub mod vector_set;
 pub mod vectors;

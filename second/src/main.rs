@@ -3,8 +3,8 @@
 use second::bench;
 use second::compare::{compare, Difference};
 use second::printer::print;
-use second::vector_set::{make, tally};
-use second::vectors::{read_file, write_file};
+use second::vector_set::{make, tally, wrong};
+use second::vectors::{read_file, write_file, Case};
 use std::io::{self, Read, Write};
 use std::process::ExitCode;
 
@@ -46,9 +46,9 @@ fn print_input() -> io::Result<ExitCode> {
 }
 
 fn make_vectors(seed: &str, count: &str) -> io::Result<ExitCode> {
-    let vectors = make(number(seed)?, number(count)? as usize);
-    io::stdout().write_all(&write_file(&vectors))?;
-    for (call, numbers) in ["accept", "evaluate", "run", "print"].iter().zip(tally(&vectors)) {
+    let cases = make(number(seed)?, number(count)? as usize);
+    io::stdout().write_all(&write_file(&cases, &wrong()))?;
+    for (call, numbers) in ["accept", "evaluate", "run"].iter().zip(tally(&cases)) {
         eprint!("{call}: {} answered; refused", numbers[0]);
         for (number, times) in numbers.iter().enumerate().skip(1).filter(|(_, times)| **times > 0) {
             eprint!(" {number}: {times}");
@@ -59,27 +59,26 @@ fn make_vectors(seed: &str, count: &str) -> io::Result<ExitCode> {
 }
 
 fn check_vectors(file: &str) -> io::Result<ExitCode> {
-    let vectors = read_file(&std::fs::read(file)?).ok_or(io::Error::other("not a file of vectors"))?;
-    let mut differing = 0;
-    for (number, (vector, expected)) in vectors.iter().enumerate() {
-        let mut answers = Vec::new();
-        vector.answers().write(&mut answers);
-        if answers != *expected {
-            println!("vector {number} differs");
-            differing += 1;
-        }
-    }
-    println!("{} vectors, {differing} differ", vectors.len());
-    Ok(exit_code(differing))
+    let (right, wrong) = read_file(&std::fs::read(file)?).ok_or(io::Error::other("not a file of vectors"))?;
+    let differs = |(vector, stated): &&Case| vector.answered() != *stated;
+    let differing = right.iter().filter(differs).count();
+    let found = wrong.iter().filter(differs).count();
+    println!("{} cases, {differing} differ", right.len());
+    println!("{} cases that state something wrong, {found} differ", wrong.len());
+    Ok(exit_code(differing + wrong.len() - found))
 }
 
 fn compare_with(program: &str, seed: &str, count: &str) -> io::Result<ExitCode> {
     let count = number(count)?;
-    let differences = compare(program, number(seed)?, count)?;
+    let (differences, tally) = compare(program, number(seed)?, count)?;
     for difference in differences.iter().take(5) {
         print_difference(difference);
     }
-    println!("{count} inputs, {} differ", differences.len());
+    print!("{} not refused; refused", tally[0]);
+    for (number, times) in tally.iter().enumerate().skip(1).filter(|(_, times)| **times > 0) {
+        print!(" {number}: {times}");
+    }
+    println!("\n{count} inputs, {} differ", differences.len());
     Ok(exit_code(differences.len()))
 }
 

@@ -1,5 +1,5 @@
-//! Which vectors are made from a seed: the edges of inputs, buffers, schedules and books first, then
-//! random ones.
+//! Which vectors are made from a seed: document 01's trials, the edges of buffers, schedules and books,
+//! then random ones; and those that state something wrong on purpose.
 
 use crate::answers::*;
 use crate::edges::{self, Edge};
@@ -7,50 +7,100 @@ use crate::generate::*;
 use crate::policy::{balanced, book_of, sequence, set, sum, write_book, Entry, Policy};
 use crate::rng::Rng;
 use crate::run;
-use crate::vectors::Vector;
+use crate::trials;
+use crate::vectors::{marks, Case, Vector};
 
-/// Random books are shorter than this.
+/// Random books are shorter than this, and so are most random schedules.
 const LONG_BOOK: usize = 600;
-/// Schedules of this length or more are written by rule.
-const LONG_SCHEDULE: usize = 48;
+const LONG_SCHEDULE: usize = 300;
 
-/// The vectors of a seed: those at the edges first, then random ones up to `count`.
-pub fn make(seed: u64, count: usize) -> Vec<Vector> {
+/// The right cases of a seed: those at the edges first, then random ones up to `count`.
+pub fn make(seed: u64, count: usize) -> Vec<Case> {
     let mut rng = Rng::new(seed);
-    let mut vectors = printer_edges(&mut rng);
-    vectors.extend(buffer_edges(&mut rng));
+    let mut cases: Vec<Case> = trials::all().iter().map(trials::Trial::case).collect();
+    let mut vectors = buffer_edges(&mut rng);
     vectors.extend(schedule_edges(&mut rng));
     vectors.extend(edges::all().iter().map(|edge| edge_vector(&mut rng, edge)));
-    vectors.truncate(count);
-    while vectors.len() < count {
+    vectors.truncate(count.saturating_sub(cases.len()));
+    while cases.len() + vectors.len() < count {
         vectors.push(random_vector(&mut rng));
     }
-    vectors
+    cases.extend(vectors.into_iter().map(|vector| (vector.clone(), vector.answered())));
+    cases
+}
+
+/// Cases with one thing stated wrong in each: every number, words of packets, kept words and zeros.
+pub fn wrong() -> Vec<Case> {
+    let trials = trials::all();
+    let named = |name: &str| trials.iter().find(|trial| trial.name == name).expect("a trial").case();
+    let bases = ["the 17-byte book", "the printer's second example", "masks 01 and 01", "81 drops"];
+    bases.iter().flat_map(|name| wrong_about(&named(name))).collect()
+}
+
+fn wrong_about(case: &Case) -> Vec<Case> {
+    let (vector, right) = case;
+    let mut cases = Vec::new();
+    for number in 0..6 {
+        for call in 0..3 {
+            let mut stated = right.clone();
+            [&mut stated.accept, &mut stated.evaluate, &mut stated.run][call][number] += 1;
+            cases.push(stated);
+        }
+    }
+    for word in 0..right.given.len().max(right.ran.len()) {
+        let mut stated = right.clone();
+        stated.given.get_mut(word).into_iter().for_each(|word| *word ^= 1);
+        cases.push(stated);
+        let mut stated = right.clone();
+        stated.ran.get_mut(word).into_iter().for_each(|word| *word ^= 256);
+        cases.push(stated);
+    }
+    cases.extend(wrong_kept_words(case));
+    cases.retain(|stated| stated != right);
+    cases.into_iter().map(|stated| (vector.clone(), stated)).collect()
+}
+
+/// The first kept word and the last one stated as another, a zero too few or too many.
+fn wrong_kept_words(case: &Case) -> Vec<crate::vectors::Stated> {
+    let (vector, right) = case;
+    let before = marks(vector.result_words, vector.seed);
+    let mut cases = Vec::new();
+    for length in [1, before.len() - right.given.len()] {
+        for evaluated in [true, false] {
+            let mut stated = right.clone();
+            let words = if evaluated { &mut stated.given } else { &mut stated.ran };
+            let end = words.len() + length;
+            words.extend(&before[words.len()..end.min(before.len())]);
+            words.last_mut().into_iter().for_each(|word| *word ^= 1);
+            cases.push(stated);
+        }
+    }
+    let zeros = right.zeros;
+    for zeros in [zeros.wrapping_sub(1), zeros + 1, 21_760 - zeros, vector.work_words, vector.work_words + 1]
+    {
+        let mut stated = right.clone();
+        stated.zeros = zeros;
+        cases.push(stated);
+    }
+    cases
 }
 
 /// A vector with the right buffers for its book.
 fn vector_for(rng: &mut Rng, book: &[u8], packet: &[u16], schedule_length: usize) -> Vector {
     let fields = book.first().map_or(1, |k| (*k).clamp(1, 8) as u16);
-    let mut vector = Vector {
-        head: input_of(book, packet, &[]),
-        tail_length: 0,
-        tail_seed: rng.byte(),
-        packet_words: packet.len() as u8,
+    Vector {
+        book: book.to_vec(),
+        packet: packet.to_vec(),
+        schedule: rng.bytes(schedule_length),
         result_words: 16 * fields,
         work_words: WORK_WORDS as u16,
-        pattern_seed: rng.byte(),
-    };
-    if schedule_length < LONG_SCHEDULE {
-        vector.head.extend(rng.bytes(schedule_length));
-    } else {
-        vector.tail_length = schedule_length as u16;
+        seed: rng.below(256) as u16,
     }
-    vector
 }
 
 fn edge_vector(rng: &mut Rng, edge: &Edge) -> Vector {
     let steps = steps_of(&edge.book, &edge.packet);
-    let length = schedule_length(rng, steps);
+    let length = schedule_length(rng, steps).min(LONG_SCHEDULE);
     vector_for(rng, &edge.book, &edge.packet, length)
 }
 
@@ -90,36 +140,17 @@ fn buffer_edges(rng: &mut Rng) -> Vec<Vector> {
     vectors
 }
 
-/// Schedules of all lengths, the longest by rule.
+/// Schedules of all lengths.
 fn schedule_edges(rng: &mut Rng) -> Vec<Vector> {
     let long = book_of(2, &sequence(edges::drops(80), set(0, 3)));
     let example = book_of(2, &edges::example());
     let steps = steps_of(&long, &[5, 9]).expect("not refused") as usize;
     let mut vectors = Vec::new();
-    for length in [0, 1, 2, 3, 4, 5, 47, 48, 255, 256, 257, 8191, 8192, 8193, 9000] {
+    for length in [0, 1, 2, 3, 4, 5, 255, 256, 257, 8191, 8192, 8193] {
         vectors.push(vector_for(rng, &example, &[5, 9], length));
     }
-    for length in [0, 1, 60, 120, 180, steps - 1, steps, steps + 1, 8192, 8193] {
+    for length in (0..=steps + 1).step_by(steps / 12).chain([steps - 1, steps, steps + 1]) {
         vectors.push(vector_for(rng, &long, &[5, 9], length));
-    }
-    vectors
-}
-
-/// Inputs cut at each place, lengths that say too much, and what comes before what.
-fn printer_edges(rng: &mut Rng) -> Vec<Vector> {
-    let book = small_book(2);
-    let whole = vector_for(rng, &book, &[5, 9], 0);
-    let mut vectors = Vec::new();
-    for cut in [0, 1, 2, 3, 8, book.len() + 1, book.len() + 2, book.len() + 3, book.len() + 5] {
-        let packet_words = if cut > book.len() + 3 { 1 } else { 0 };
-        vectors.push(Vector { head: whole.head[..cut].to_vec(), packet_words, ..whole.clone() });
-    }
-    for stated in [[0x10, 0x00], [0x10, 0x01], [0xFF, 0xFF], [0x00, 0x00], [0x00, 0x01]] {
-        let alone = Vector { head: stated.to_vec(), packet_words: 0, ..whole.clone() };
-        let mut followed = whole.clone();
-        followed.head[..2].copy_from_slice(&stated);
-        vectors.push(Vector { packet_words: 0, ..alone });
-        vectors.push(Vector { packet_words: 0, ..followed });
     }
     vectors
 }
@@ -139,7 +170,7 @@ fn random_vector(rng: &mut Rng) -> Vector {
     };
     let fields = book.first().map_or(1, |k| (*k as usize).clamp(1, MOST_FIELDS));
     let packet = random_packet(rng, fields);
-    let length = schedule_length(rng, steps_of(&book, &packet));
+    let length = schedule_length(rng, steps_of(&book, &packet)).min(LONG_SCHEDULE);
     let mut vector = vector_for(rng, &book, &packet, length);
     if rng.chance(30) {
         vector.result_words += rng.below(40) as u16;
@@ -148,20 +179,11 @@ fn random_vector(rng: &mut Rng) -> Vector {
     match rng.below(40) {
         0 => vector.result_words = vector.result_words.min(16 * fields as u16) - 1,
         1 => vector.work_words = WORK_WORDS as u16 - 1,
-        2 => vector.packet_words -= 1,
-        3 => cut_packet(rng, &mut vector, 2 + book.len(), fields),
-        4 => vector.tail_length = (MOST_SCHEDULE + 1 + rng.below(100)) as u16,
+        2 => vector.packet.truncate(rng.below(fields)),
+        3 => vector.packet.push(rng.below(65_536) as u16),
         _ => {}
     }
     vector
-}
-
-/// Ends the input inside the packet, which begins at `start`.
-fn cut_packet(rng: &mut Rng, vector: &mut Vector, start: usize, fields: usize) {
-    let left = rng.below(2 * fields);
-    vector.head.truncate(start + left);
-    vector.tail_length = 0;
-    vector.packet_words = (left / 2) as u8;
 }
 
 /// A table used often, with n a little under or over 1,023.
@@ -199,12 +221,12 @@ fn sound_book_of_moderate_length(rng: &mut Rng) -> Vec<u8> {
     }
 }
 
-/// How often accept, evaluate, run and the printer give each number; number 0 counts the answers that
-/// are no refusals.
-pub fn tally(vectors: &[Vector]) -> [[usize; 15]; 4] {
-    let mut tally = [[0; 15]; 4];
-    for vector in vectors {
-        for (call, number) in vector.answers().numbers().into_iter().enumerate() {
+/// How often accept, evaluate and run are stated to give each number; number 0 counts what is no refusal.
+pub fn tally(cases: &[Case]) -> [[usize; 15]; 3] {
+    let mut tally = [[0; 15]; 3];
+    for (_, stated) in cases {
+        for (call, numbers) in [stated.accept, stated.evaluate, stated.run].iter().enumerate() {
+            let number = if numbers[0] == 0 { numbers[1] } else { 0 };
             tally[call][number as usize] += 1;
         }
     }

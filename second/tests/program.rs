@@ -1,7 +1,7 @@
 //! The program's subcommands, and the format of the vectors.
 
-use second::vector_set::{make, tally};
-use second::vectors::{pattern, read_file, tail, write_file};
+use second::vector_set::{make, tally, wrong};
+use second::vectors::{marks, read_file, write_file};
 use std::io::Write;
 use std::process::{Command, Output, Stdio};
 
@@ -26,41 +26,48 @@ fn print_prints_the_example() {
 
 #[test]
 fn vectors_are_the_same_for_the_same_seed_and_read_back() {
-    let vectors = make(7, 600);
-    let file = write_file(&vectors);
+    let cases = make(7, 600);
+    let file = write_file(&cases, &wrong());
     assert_eq!(file, second(&["vectors", "7", "600"], &[]).stdout);
     assert!(file.len() < 300_000, "{} bytes", file.len());
-    let read = read_file(&file).expect("the format is kept");
-    assert_eq!(read.len(), 600);
-    for (vector, (read_vector, expected)) in vectors.iter().zip(&read) {
-        assert_eq!(vector, read_vector);
-        let mut answers = Vec::new();
-        vector.answers().write(&mut answers);
-        assert_eq!(&answers, expected);
-    }
+    assert_eq!(read_file(&file), Some((cases, wrong())));
     assert!(read_file(&file[..file.len() - 1]).is_none());
     assert!(read_file(&[&file[..], &[0]].concat()).is_none());
 }
 
+/// The vectors that the gate runs are those of seed 1, and hold to document 01's text and this program.
+#[test]
+fn the_committed_vectors_are_those_of_seed_1() {
+    let committed = include_bytes!("../../crates/trials/stdin");
+    assert!(write_file(&make(1, COMMITTED), &wrong()) == committed, "make them again: see README.md");
+}
+
+#[test]
+fn every_wrong_case_is_found() {
+    assert!(wrong().len() > 100);
+    for (vector, stated) in wrong() {
+        assert_ne!(vector.answered(), stated);
+    }
+}
+
+/// How many cases the committed file has.
+const COMMITTED: usize = 700;
+
 #[test]
 fn vectors_give_every_number_many_times() {
-    let [accept, evaluate, run, print] = tally(&make(1, 600));
-    let often = |numbers: &[usize; 15], which: &[usize]| which.iter().all(|number| numbers[*number] >= 9);
+    let [accept, evaluate, run] = tally(&make(1, COMMITTED));
+    let often = |numbers: &[usize; 15], which: &[usize]| which.iter().all(|number| numbers[*number] >= 12);
     assert!(often(&accept, &[1, 2, 3, 4, 5, 6, 7]), "{accept:?}");
     assert!(often(&evaluate, &[8, 9, 10, 12]), "{evaluate:?}");
     assert!(often(&run, &[8, 9, 10, 11, 12]), "{run:?}");
-    assert!(often(&print, &[1, 2, 3, 4, 5, 6, 7, 8, 9, 10, 11, 14]), "{print:?}");
-    assert_eq!(run[13] + evaluate[13] + print[13], 0);
+    assert_eq!(run[13] + evaluate[13] + run[14] + evaluate[14], 0);
     assert!(accept[0] > 250 && run[0] > 200, "most random books are accepted and run");
 }
 
-/// The rules as README.md tells them, with the first values worked out by hand.
+/// The rule as README.md tells it, with the first values worked out by hand.
 #[test]
-fn tails_and_patterns_by_rule() {
-    // 257, then 257·25,173 + 13,849 mod 65,536 = 60,782 = 237·256 + 110.
-    assert_eq!(tail(1, 1), [237]);
-    assert_eq!(tail(2, 0)[0], (13_849_u16 >> 8) as u8);
-    assert_eq!(pattern(3, 2), [515, 41_018, (2 * 40_503 + 515 - 65_536) as u16]);
+fn marks_by_rule() {
+    assert_eq!(marks(3, 2), [515, 41_018, (2 * 40_503 + 515 - 65_536) as u16]);
 }
 
 #[test]
