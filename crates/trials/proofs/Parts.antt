@@ -1,11 +1,10 @@
--- The parts and words of a vector: what lies past the end, how many words there are, and a front of zeros.
-use Prim.Native.Nat.{ℕ, zero, suc, _+_, _-_, _≤_, _<_}
+-- The parts of a vector: what lies past the end, a front of zeros, and an array that was filled word by word.
+use Prim.Native.Nat.{ℕ, zero, suc, _-_, _≤_, _<_}
 use native.Mathlib.Omega.{arith}
 use mathlib.Core.Path.{_≡_, refl, sym, ap, _∙_}
-use mathlib.Core.List.{List, [], _∷_, _++_}
-use lib.ListN.{length, take, drop, replicate, length-append, length-drop, drop-of-length-le}
-use lib.Seq.{take-all, take-nil}
-use Rattle.trials.specs.Vectors.{wordsIn, marks}
+use mathlib.Core.List.{List, _∷_}
+use lib.ListN.{length, take, drop, replicate, length-drop, drop-of-length-le}
+use lib.Seq.{take-all}
 
 -- what follows a place, as a slice to the end
 pub tail-whole : (at : ℕ) (l : List ℕ) → take (length l - at) (drop at l) ≡ drop at l
@@ -15,16 +14,6 @@ pub tail-past : (at : ℕ) (l : List ℕ) → length l < at → take (length l -
 tail-past at l h =
     let past : length l ≤ at = omega arith in
     tail-whole (length l) l ∙ rw (drop-of-length-le l past, drop-of-length-le l {i = length l} (omega arith))
-
-pub words-length : (n : ℕ) (l : List ℕ) → length (wordsIn n l) ≡ n
-unfolding wordsIn
-words-length zero l = refl
-words-length (suc n) l = rw (length-append, words-length n l) (omega arith)
-
-pub marks-length : (seed n : ℕ) → length (marks seed n) ≡ n
-unfolding marks
-marks-length seed zero = refl
-marks-length seed (suc n) = rw (length-append, marks-length seed n) (omega arith)
 
 pub zeros-front : (n m : ℕ) → n ≤ m → take n (replicate {A = ℕ} m 0) ≡ replicate n 0
 zeros-front zero m h = refl

@@ -6,7 +6,7 @@ use rules::Verdict;
 ghost use Prim.Native.Nat.{_+_, _-_};
 ghost use mathlib.Core.Path.{_≡_};
 ghost use mathlib.Core.Bool.{_&&_};
-ghost use lib.ListN.{length, getD};
+ghost use lib.ListN.{getD};
 ghost use Rattle.rules.specs.Answers.{refusalSays, verdictSays, evaluatedSays, ranSays, overwritten};
 ghost use Rattle.trials.specs.Agreement.{same, numbersOf, left};
 

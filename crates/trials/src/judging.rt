@@ -15,7 +15,7 @@ use rules::Evaluated;
 use rules::Ran;
 ghost use Prim.Native.Nat.{_≤_};
 ghost use mathlib.Core.Path.{_≡_};
-ghost use lib.ListN.{length, take, replicate};
+ghost use lib.ListN.{take, replicate};
 ghost use Rattle.trials.specs.Vectors.{packetPlace, schedulePlace, givenPlace, ranPlace, packetWords, givenWords, ranWords};
 ghost use Rattle.trials.specs.Vectors.{zeroWords, bookOf, packetOf, scheduleOf, givenOf, ranOf, resultLent, workLent};
 ghost use Rattle.trials.specs.Agreement.{left, Evaluates, Runs, acceptAgrees, evaluateAgrees, runAgrees, agrees};

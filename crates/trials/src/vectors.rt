@@ -1,7 +1,7 @@
 // Reading a vector: its numbers, words and parts. All is total: past the end of the bytes there are zeros.
 ghost use Prim.Native.Nat.{_+_, _*_, _≤_, _<_};
 ghost use mathlib.Core.Path.{_≡_};
-ghost use lib.ListN.{length, take, drop};
+ghost use lib.ListN.{take, drop};
 ghost use Rattle.rules.specs.Reading.{numberAt};
 ghost use Rattle.trials.specs.Vectors.{longAt, wordsIn, numbersAt, marker, marks};
 

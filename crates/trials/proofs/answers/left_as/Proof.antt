@@ -27,15 +27,18 @@ unfolding left
 loop-holds c = (search needs, c .if1 .left ∙ c .before .longer .ensures ∙ sym (overwritten-length _ _), refl)
 
 returns-2 : tie.Need-returns-2 Inv-loop μ-loop
-returns-2 c = let l = c .before .before .before .before .loop in
+returns-2 c =
+    let l = c .before .before .before .before .loop in
     sym (l .inv .2 ∙ same-differs _ _ (l .i) (omega arith) (omega arith) (λ e. c .if2 .taken (e ∙ sym (c .before .wanted .ensures))))
 
 loop-again : tie.Need-loop-again Inv-loop μ-loop
-loop-again c = let l = c .before .before .before .before .loop in
+loop-again c =
+    let l = c .before .before .before .before .loop in
     (search needs, l .inv .1, l .inv .2 ∙ same-next _ _ (l .i) (omega arith) (omega arith) (c .if2 .left ∙ c .before .wanted .ensures))
 
 returns-3 : tie.Need-returns-3 Inv-loop μ-loop
-returns-3 c = let l = c .before .loop in
+returns-3 c =
+    let l = c .before .loop in
     sym (l .inv .2 ∙ same-end _ _ (l .i) (omega arith) (omega arith))
 
 pub left-as-spec : {M : Type 1} → statement M

@@ -16,15 +16,18 @@ abbrev μ-loop : tie.MeasureT-loop
 μ-loop a b i₀ i = 6 - i
 
 returns : tie.Need-returns Inv-loop μ-loop
-returns c = let l = c .before .before .loop in
+returns c =
+    let l = c .before .before .loop in
     sym (l .inv .3 ∙ same-differs _ _ (l .i) (omega arith) (omega arith) (c .if1 .taken))
 
 loop-again : tie.Need-loop-again Inv-loop μ-loop
-loop-again c = let l = c .before .before .loop in
+loop-again c =
+    let l = c .before .before .loop in
     (search needs, search needs, search needs, l .inv .3 ∙ same-next _ _ (l .i) (omega arith) (omega arith) (c .if1 .left))
 
 returns-2 : tie.Need-returns-2 Inv-loop μ-loop
-returns-2 c = let l = c .before .loop in
+returns-2 c =
+    let l = c .before .loop in
     sym (l .inv .3 ∙ same-end _ _ (l .i) (omega arith) (omega arith))
 
 pub same-numbers-spec : {M : Type 1} → statement M

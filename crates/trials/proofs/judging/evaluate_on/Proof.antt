@@ -10,7 +10,8 @@ slice-aggregate-evaluate : tie.Need-slice-aggregate-evaluate
 slice-aggregate-evaluate c = sym (length-take-le _ _ (omega arith))
 
 returns : tie.Need-returns
-returns c = let a = c .before .before in
+returns c =
+    let a = c .before .before in
     let b = a .before .before .before in
     rw (b .before .word-at .ensures .0, b .before .before .packet-of .ensures, b .book-of .ensures) at (a .evaluate .ensures)
 

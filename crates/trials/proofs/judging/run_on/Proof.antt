@@ -10,7 +10,8 @@ slice-aggregate-run : tie.Need-slice-aggregate-run
 slice-aggregate-run c = sym (length-take-le _ _ (omega arith))
 
 returns : tie.Need-returns
-returns c = let a = c .before .before .before .before in
+returns c =
+    let a = c .before .before .before .before in
     let s = a .before .before .before in
     let b = s .before .before in
     let packet = rw (b .before .word-at .ensures .0, b .before .before .packet-of .ensures) at (a .run .ensures) in

@@ -12,7 +12,8 @@ slice-aggregate-left-as : tie.Need-slice-aggregate-left-as
 slice-aggregate-left-as c = sym (length-take-le _ _ (omega arith))
 
 returns : tie.Need-returns
-returns c = let w = c .before .before .word-at in
+returns c =
+    let w = c .before .before .word-at in
     let few : w .result ≤ 65536 = omega arith in
     rw (zeros-front (w .result) 65536 few, w .ensures .0) at (c .left-as .ensures)
 

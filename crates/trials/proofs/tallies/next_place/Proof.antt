@@ -7,14 +7,16 @@ use Rattle.trials.proofs.tallies.next_place.Statement.{statement}
 use Rattle.trials.proofs.tallies.next_place.Tie as tie
 
 returns : tie.Need-returns
-returns c = let s = c .before .before .before .before in
+returns c =
+    let s = c .before .before .before .before in
     let rest = c .before .before .from .ensures in
     let n = rw rest at (c .before .word-at .ensures .0) in
     let short = rw (n, rest) at (c .if1 .taken) in
     (next-cut (s .args .set .now) (s .args .at) short, s .pre, search needs)
 
 returns-2 : tie.Need-returns-2
-returns-2 c = let s = c .before .before .before .before in
+returns-2 c =
+    let s = c .before .before .before .before in
     let rest = c .before .before .from .ensures in
     let n = rw rest at (c .before .word-at .ensures .0) in
     let whole = rw rest at (c .if1 .left) in

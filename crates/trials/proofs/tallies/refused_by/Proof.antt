@@ -10,7 +10,8 @@ use Rattle.trials.proofs.tallies.refused_by.Tie as tie
 
 returns : tie.Need-returns
 unfolding refusedBy
-returns c = let s = c .before .before .before .before in
+returns c =
+    let s = c .before .before .before .before in
     let at = 18 + 24 * s .args .call in
     c .long-at2 .ensures
     ∙ stated-refusal (longAt (s .args .v .now) at) (longAt (s .args .v .now) (at + 4))
@@ -18,7 +19,8 @@ returns c = let s = c .before .before .before .before in
 
 returns-2 : tie.Need-returns-2
 unfolding refusedBy
-returns-2 c = let s = c .before .before .before in
+returns-2 c =
+    let s = c .before .before .before in
     let at = 18 + 24 * s .args .call in
     stated-answer (longAt (s .args .v .now) at) (longAt (s .args .v .now) (at + 4)) (λ e. c .if1 .left (c .before .long-at .ensures ∙ e))
 

@@ -2,10 +2,10 @@
 use Rattle.trials.proofs.Parts.{filled}
 use Rattle.trials.specs.Vectors.{marks}
 use native.Mathlib.Omega.{arith}
-use lib.Seq.{take-suc-set, take-all}
+use lib.Seq.{take-suc-set}
 use lib.ListN.{length, take}
 use native.Mathlib.Numerals.{add-one}
-use mathlib.Core.Path.{_≡_, refl, sym, _∙_}
+use mathlib.Core.Path.{_≡_, refl}
 use Prim.Native.Nat.{_-_, _≤_, _<_}
 use borrow.Author.Needs.{needs}
 use Rattle.trials.proofs.vectors.marked.Statement.{statement}
@@ -23,12 +23,14 @@ loop-holds c = (search needs, search needs, refl)
 
 loop-again : tie.Need-loop-again Inv-loop μ-loop
 unfolding marks
-loop-again c = let l = c .before .before .loop in
+loop-again c =
+    let l = c .before .before .loop in
     let inside : l .i < length (l .words) = omega arith in
     (search needs, search needs, rw (add-one, take-suc-set (l .words) (l .i) _ inside, l .inv .2, c .marker-at .ensures))
 
 returns : tie.Need-returns Inv-loop μ-loop
-returns c = let l = c .before .loop in
+returns c =
+    let l = c .before .loop in
     filled (marks (c .before .before .args .seed)) (l .words) (l .i) 65536 (omega arith) (omega arith) (l .inv .2)
 
 pub marked-spec : {M : Type 1} → statement M

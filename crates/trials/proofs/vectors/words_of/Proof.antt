@@ -23,12 +23,14 @@ loop-holds c = (search needs, search needs, refl)
 
 loop-again : tie.Need-loop-again Inv-loop μ-loop
 unfolding wordsIn
-loop-again c = let l = c .before .before .loop in
+loop-again c =
+    let l = c .before .before .loop in
     let inside : l .i < length (l .words) = omega arith in
     (search needs, search needs, rw (add-one, take-suc-set (l .words) (l .i) _ inside, l .inv .2, c .word-at .ensures .0))
 
 returns : tie.Need-returns Inv-loop μ-loop
-returns c = let l = c .before .loop in
+returns c =
+    let l = c .before .loop in
     let e : l .i ≡ c .before .before .before .args .n = omega arith in
     rw e at (l .inv .2)
 
