@@ -14,8 +14,24 @@ use Rattle.rules.specs.Books.{Scope, scopeOf, mostDepth}
 use Rattle.rules.specs.declared.Shape.{Shape}
 use Rattle.rules.specs.declared.Reading.{Reading}
 use Rattle.rules.specs.declared.Reading.the-variants.{Next, Wrong}
-use Rattle.rules.specs.Reading.{andThen, byteIf, stands, readPart, readBody, readEntry, readEntries, bodyStart, lengthAt, fieldsOf, tablesOf}
+use Rattle.rules.specs.Reading.{andThen, byteIf, stands, operandFits, readOperands, readTimes, readPart, readBody}
+use Rattle.rules.specs.Reading.{readEntry, readEntries, bodyStart, lengthAt, fieldsOf, tablesOf}
 use Rattle.rules.proofs.ReadingLaws.{operandsAt, partBelow, times-none, times-wrong, times-one, part-wrong, part-deep, part-operands, part-parts, part-two, below-is, body-wrong, body-whole, body-rest}
+
+-- what is known of a part whose operands are read, b being the place after them and x the row of its code; and once the part
+-- on the left was read
+pub record AtParts (s : List ℕ) (c : Scope) (d : ℕ) (pred : Bool) (at b : ℕ) (x : Shape) : Type 0 where
+  pub after-code : ℕ
+  pub head : byteIf s (stands (c .main) pred) at ≡ Next after-code
+  pub deep : d ≡ 0 → ⊥
+  pub operands : operandsAt s c at after-code ≡ Next b
+  pub row : x ≡ shapeAt (getD s at 0)
+
+pub record AtRight (s : List ℕ) (c : Scope) (d : ℕ) (pred : Bool) (at b : ℕ) (x : Shape) (pb : Bool) (l : Reading) : Type 0 where
+  pub parts : AtParts s c d pred at b x
+  pub some-parts : x .parts ≡ 0 → ⊥
+  pub below : pb ≡ (eqb (getD s at 0) 4 || pred)
+  pub left : l ≡ readPart s c (d - 1) pb b
 
 module _ (s : List ℕ) (c : Scope) (d : ℕ) (pred : Bool) (at : ℕ) (head : Reading) (eh : head ≡ byteIf s (stands (c .main) pred) at) where
   pub head-wrong : (r : ℕ) → head ≡ Wrong r → head ≡ readPart s c d pred at
@@ -25,40 +41,50 @@ module _ (s : List ℕ) (c : Scope) (d : ℕ) (pred : Bool) (at : ℕ) (head : R
     pub too-deep : d ≡ 0 → Wrong at ≡ readPart s c d pred at
     too-deep z = sym (part-deep s c d pred at a (sym eh ∙ qa) z)
 
-    module _ (hd : d ≡ 0 → ⊥) (ops : Reading) (eo : ops ≡ operandsAt s c at a) where
+    module _ (hd : d ≡ 0 → ⊥) (x : Shape) (ex : x ≡ shapeAt (getD s at 0)) (ops : Reading)
+        (eo : ops ≡ readOperands s (operandFits (c .fields) (c .tables) (getD s at 0)) (x .operands) 0 a) where
+      operands-are : ops ≡ operandsAt s c at a
+      operands-are = eo ∙ rw ex
+
       pub operands-stop : (r : ℕ) → ops ≡ Wrong r → ops ≡ readPart s c d pred at
-      operands-stop r q = q ∙ sym (part-operands s c d pred at a (sym eh ∙ qa) hd r (sym eo ∙ q))
+      operands-stop r q = q ∙ sym (part-operands s c d pred at a (sym eh ∙ qa) hd r (sym operands-are ∙ q))
 
-      module _ (b : ℕ) (qb : ops ≡ Next b) (x : Shape) (ex : x ≡ shapeAt (getD s at 0)) where
-        row : x .parts ≡ partsOf (getD s at 0)
-        row = ap (λ (y : Shape). y .parts) ex
+      pub operands-next : (b : ℕ) → ops ≡ Next b → AtParts s c d pred at b x
+      operands-next b q = record { after-code = a; head = sym eh ∙ qa; deep = hd; operands = sym operands-are ∙ q; row = ex }
 
-        pub leaf-read : x .parts ≡ 0 → Next b ≡ readPart s c d pred at
-        leaf-read z =
-            sym (part-parts s c d pred at a (sym eh ∙ qa) hd b (sym eo ∙ qb)
-            ∙ times-none (partBelow s c d pred at) (partsOf (getD s at 0)) b (sym row ∙ z))
+module _ (s : List ℕ) (c : Scope) (d : ℕ) (pred : Bool) (at b : ℕ) (x : Shape) where
+  row-parts : AtParts s c d pred at b x → x .parts ≡ partsOf (getD s at 0)
+  row-parts k = ap (λ (y : Shape). y .parts) (k .row)
 
-        module _ (n0 : x .parts ≡ 0 → ⊥) (pb : Bool) (ep : pb ≡ (eqb (getD s at 0) 4 || pred)) (l : Reading)
-            (el : l ≡ readPart s c (d - 1) pb b) where
-          left-is : partBelow s c d pred at b ≡ l
-          left-is = below-is s c d pred at pb b l ep el
+  pub leaf-read : AtParts s c d pred at b x → x .parts ≡ 0 → Next b ≡ readPart s c d pred at
+  leaf-read k z =
+      sym (part-parts s c d pred at (k .after-code) (k .head) (k .deep) b (k .operands)
+      ∙ times-none (partBelow s c d pred at) (partsOf (getD s at 0)) b (sym (row-parts k) ∙ z))
 
-          pub left-stop : (r : ℕ) → l ≡ Wrong r → l ≡ readPart s c d pred at
-          left-stop r q =
-              q
-              ∙ sym (part-parts s c d pred at a (sym eh ∙ qa) hd b (sym eo ∙ qb)
-              ∙ times-wrong (partBelow s c d pred at) (partsOf (getD s at 0)) b r (λ e. n0 (row ∙ e)) (left-is ∙ q))
+  module _ (pb : Bool) (l : Reading) (w : AtRight s c d pred at b x pb l) where
+    left-is : partBelow s c d pred at b ≡ l
+    left-is = below-is s c d pred at pb b l (w .below) (w .left)
 
-          module _ (m : ℕ) (qm : l ≡ Next m) where
-            pub one-read : x .parts ≡ 1 → Next m ≡ readPart s c d pred at
-            one-read z =
-                sym (part-parts s c d pred at a (sym eh ∙ qa) hd b (sym eo ∙ qb)
-                ∙ times-one (partBelow s c d pred at) (partsOf (getD s at 0)) b m (sym row ∙ z) (left-is ∙ qm))
+    some : partsOf (getD s at 0) ≡ 0 → ⊥
+    some e = w .some-parts (row-parts (w .parts) ∙ e)
 
-            pub two-read : (x .parts ≡ 1 → ⊥) → (r : Reading) → r ≡ readPart s c (d - 1) pb m → r ≡ readPart s c d pred at
-            two-read n1 r er =
-                sym (part-two s c d pred at a (sym eh ∙ qa) hd b m (sym eo ∙ qb) (λ e. n0 (row ∙ e)) (λ e. n1 (row ∙ e)) (left-is ∙ qm)
-                ∙ below-is s c d pred at pb m r ep er)
+    to-parts : readPart s c d pred at ≡ readTimes (partsOf (getD s at 0)) (partBelow s c d pred at) b
+    to-parts =
+        let k = w .parts in
+        part-parts s c d pred at (k .after-code) (k .head) (k .deep) b (k .operands)
+
+    pub left-stop : (r : ℕ) → l ≡ Wrong r → l ≡ readPart s c d pred at
+    left-stop r q = q ∙ sym (to-parts ∙ times-wrong (partBelow s c d pred at) (partsOf (getD s at 0)) b r some (left-is ∙ q))
+
+    pub one-read : (m : ℕ) → l ≡ Next m → x .parts ≡ 1 → Next m ≡ readPart s c d pred at
+    one-read m q z =
+        sym (to-parts ∙ times-one (partBelow s c d pred at) (partsOf (getD s at 0)) b m (sym (row-parts (w .parts)) ∙ z) (left-is ∙ q))
+
+    pub two-read : (m : ℕ) → l ≡ Next m → (x .parts ≡ 1 → ⊥) → (r : Reading) → r ≡ readPart s c (d - 1) pb m → r ≡ readPart s c d pred at
+    two-read m q n1 r er =
+        let k = w .parts in
+        sym (part-two s c d pred at (k .after-code) (k .head) (k .deep) b m (k .operands) some (λ e. n1 (row-parts k ∙ e)) (left-is ∙ q)
+        ∙ below-is s c d pred at pb m r (w .below) er)
 
 -- a whole body
 module _ (s : List ℕ) (c : Scope) (start : ℕ) (body : Reading) (eb : body ≡ readPart s c mostDepth false start) where

@@ -9,7 +9,6 @@ ghost use mathlib.Core.Bool.{true, false, _||_, _&&_};
 ghost use Prim.Native.Nat.{suc, max, _+_, _*_, _≤_, _<_};
 ghost use lib.Dec.{leb, eqb};
 ghost use lib.ListN.{getD, take};
-ghost use Rattle.rules.specs.Codes.{operandsOf};
 ghost use Rattle.rules.specs.Masks.{inFields};
 ghost use Rattle.rules.specs.Books.{scopeOf, masksFit, mostFields, mostTables, mostBytes};
 ghost use Rattle.rules.specs.Reading.{byteIf, stands, operandFits, readOperands, readPart, readBody, readEntry, readEntries};
@@ -131,12 +130,10 @@ fn operand_fits(code: u8, i: usize, b: u8, k: u8, m: u8) -> bool
     }
 }
 
-// The operand bytes of a code, from a place on.
-fn read_operands(s: &[u8], from: usize, code: u8, k: u8, m: u8) -> Reading
-    ensures { λ r. ⌜ r ≡ readOperands (now (s .entry)) (operandFits k m code) (operandsOf code) 0 from ⌝ }
+// The n operand bytes of a code, from a place on.
+fn read_operands(s: &[u8], from: usize, code: u8, n: usize, k: u8, m: u8) -> Reading
+    ensures { λ r. ⌜ r ≡ readOperands (now (s .entry)) (operandFits k m code) n 0 from ⌝ }
 {
-    let shape = rules::shape_of(code);
-    let n = shape.operands;
     let mut i: usize = 0;
     let mut at = from;
     while i < n {
@@ -160,23 +157,33 @@ fn pred_below(code: u8, pred: bool) -> bool
     if code == 4 { true } else { pred }
 }
 
+// The same answer, made anew: handed on whole it would be copied with its padding, for which the processor waits.
+fn passed(r: Reading) -> Reading
+    ensures { λ a. ⌜ a ≡ r ⌝ }
+{
+    match r {
+        Reading::Next(place) => Reading::Next(place),
+        Reading::Wrong(place) => Reading::Wrong(place),
+    }
+}
+
 // One part, with what stands below it, at most depth deep.
 fn read_part(s: &[u8], at: usize, depth: usize, k: u8, m: u8, main: bool, pred: bool) -> Reading
     ensures { λ r. ⌜ r ≡ readPart (now (s .entry)) (scopeOf k m main) depth pred at ⌝ }
 {
     let head = read_code(s, at, main, pred);
     let Reading::Next(a) = head else {
-        return head;
+        return passed(head);
     };
     if depth == 0 {
         return Reading::Wrong(at);
     }
     let code = s[at];
-    let operands = read_operands(s, a, code, k, m);
-    let Reading::Next(b) = operands else {
-        return operands;
-    };
     let shape = rules::shape_of(code);
+    let operands = read_operands(s, a, code, shape.operands, k, m);
+    let Reading::Next(b) = operands else {
+        return passed(operands);
+    };
     let parts = shape.parts;
     if parts == 0 {
         return Reading::Next(b);
@@ -184,12 +191,12 @@ fn read_part(s: &[u8], at: usize, depth: usize, k: u8, m: u8, main: bool, pred: 
     let below = pred_below(code, pred);
     let left = read_part(s, b, depth - 1, k, m, main, below);
     let Reading::Next(c) = left else {
-        return left;
+        return passed(left);
     };
     if parts == 1 {
         return Reading::Next(c);
     }
-    read_part(s, c, depth - 1, k, m, main, below)
+    passed(read_part(s, c, depth - 1, k, m, main, below))
 }
 
 // A body that starts at a place and ends where s ends.

@@ -2,35 +2,28 @@
 use borrow.Author.Needs.{needs}
 use native.Mathlib.Omega.{arith}
 use native.Mathlib.Nat.{sub-zero}
-use Rattle.rules.specs.declared.Shape.{Shape}
-use Prim.Native.Nat.{ℕ, _-_, _≤_}
-use mathlib.Core.Path.{_≡_, sym, _∙_, ap}
-use Rattle.rules.specs.Codes.{operandsOf}
+use Prim.Native.Nat.{_-_, _≤_}
+use mathlib.Core.Path.{_≡_, sym, _∙_}
 use Rattle.rules.specs.Reading.{readOperands, operandFits}
 use Rattle.rules.proofs.ReadingLaws.{operands-none, operands-short, operands-wrong, operands-step}
 use Rattle.book.proofs.read_operands.Statement.{statement}
 use Rattle.book.proofs.read_operands.Tie as tie
 
 abbrev Inv-loop : tie.InvT-loop
-Inv-loop s from code k m n i₀ at₀ i at =
-    (i ≤ n) × (readOperands s (operandFits k m code) (operandsOf code) 0 from ≡ readOperands s (operandFits k m code) (n - i) i at)
+Inv-loop s from code n k m i₀ at₀ i at =
+    (i ≤ n) × (readOperands s (operandFits k m code) n 0 from ≡ readOperands s (operandFits k m code) (n - i) i at)
 
 abbrev μ-loop : tie.MeasureT-loop
-μ-loop s from code k m n i₀ at₀ i at = n - i
+μ-loop s from code n k m i₀ at₀ i at = n - i
 
 loop-holds : tie.Need-loop-holds Inv-loop μ-loop
-loop-holds c =
-    let start = c .before .before in (
-      search needs,
-      ap (λ (n : ℕ). readOperands (start .args .s .now) (operandFits (start .args .k) (start .args .m) (start .args .code)) n 0
-          (start .args .from)) (sym (ap (λ (r : Shape). r .operands) (c .shape-of .ensures)) ∙ sym (sub-zero _)),
-    )
+loop-holds c = (search needs, rw sub-zero)
 
 returns : tie.Need-returns Inv-loop μ-loop
 returns c = sym (c .before .before .loop .inv .1 ∙ operands-short _ _ _ _ _ (c .before .loop-test .taken) (c .if1 .taken))
 
 add-i : tie.Need-add-i Inv-loop μ-loop
-add-i c = omega (arith, c .before .before .before .before .before .before .shape-of .ok)
+add-i c = omega arith
 
 loop-less : tie.Need-loop-less Inv-loop μ-loop
 loop-less c = omega arith
@@ -65,7 +58,6 @@ read-operands-spec =
     (tie.spec
     Inv-loop
     μ-loop
-    (λ c κs. search needs)
     loop-holds
     returns
     (λ c. search needs)
