@@ -4,33 +4,20 @@ use native.Mathlib.Omega.{arith}
 use native.Mathlib.Numerals.{sub-one, add-one}
 use mathlib.Core.Path.{_≡_, refl, sym, _∙_}
 use mathlib.Core.List.{List}
-use lib.Dec.{lit≤}
 use lib.ListN.{length, getD}
 use borrow.Author.Tests.{lt-ltb, le-ltb}
-use Rattle.rules.specs.Codes.{shapeAt, operandsOf, partsOf}
+use Rattle.rules.specs.Codes.{shapeAt, partsOf}
 use Rattle.rules.specs.declared.Shape.{Shape}
 use Rattle.rules.specs.Reading.{skip, below, after, bodyStart, lengthAt}
-use Rattle.rules.proofs.ReadingLaws.{parts-small}
-
-operands-small : (c : ℕ) → operandsOf c ≤ 3
-operands-small zero = lit≤ tt
-operands-small (suc zero) = lit≤ tt
-operands-small (suc (suc zero)) = lit≤ tt
-operands-small (suc (suc (suc zero))) = lit≤ tt
-operands-small (suc (suc (suc (suc zero)))) = lit≤ tt
-operands-small (suc (suc (suc (suc (suc zero))))) = lit≤ tt
-operands-small (suc (suc (suc (suc (suc (suc zero)))))) = lit≤ tt
-operands-small (suc (suc (suc (suc (suc (suc (suc zero))))))) = lit≤ tt
-operands-small (suc (suc (suc (suc (suc (suc (suc (suc zero)))))))) = lit≤ tt
-operands-small (suc (suc (suc (suc (suc (suc (suc (suc (suc c))))))))) = lit≤ tt
+use Rattle.rules.proofs.ReadingLaws.{row-small}
 
 -- x is the row of the code
 module _ (c : ℕ) (x : Shape) (e : x ≡ shapeAt c) where
   pub operands-few : x .operands ≤ 3
-  operands-few = rw e (operands-small c)
+  operands-few = rw e (row-small c .0)
 
   pub parts-few : x .parts ≤ 2
-  parts-few = rw e (parts-small c)
+  parts-few = rw e (row-small c .1)
 
 pub below-is : (s : List ℕ) (at : ℕ) (x : Shape) → x ≡ shapeAt (getD s at 0) → at + 1 + x .operands ≡ below s at
 below-is s at x e = rw e

@@ -157,17 +157,21 @@ module _ (f : ℕ → Reading) where
   pub times-two : (n b c : ℕ) → n ≤ 2 → (n ≡ 0 → ⊥) → (n ≡ 1 → ⊥) → f b ≡ Next c → readTimes n f b ≡ f c
   times-two n b c l h0 h1 e = let q : n ≡ 2 = omega arith in rw (q, e) (then-next (f c))
 
+-- no code has more operands or parts
+pub row-small : (c : ℕ) → (operandsOf c ≤ 3) × (partsOf c ≤ 2)
+row-small zero = (lit≤ tt, lit≤ tt)
+row-small (suc zero) = (lit≤ tt, lit≤ tt)
+row-small (suc (suc zero)) = (lit≤ tt, lit≤ tt)
+row-small (suc (suc (suc zero))) = (lit≤ tt, lit≤ tt)
+row-small (suc (suc (suc (suc zero)))) = (lit≤ tt, lit≤ tt)
+row-small (suc (suc (suc (suc (suc zero))))) = (lit≤ tt, lit≤ tt)
+row-small (suc (suc (suc (suc (suc (suc zero)))))) = (lit≤ tt, lit≤ tt)
+row-small (suc (suc (suc (suc (suc (suc (suc zero))))))) = (lit≤ tt, lit≤ tt)
+row-small (suc (suc (suc (suc (suc (suc (suc (suc zero)))))))) = (lit≤ tt, lit≤ tt)
+row-small (suc (suc (suc (suc (suc (suc (suc (suc (suc c))))))))) = (lit≤ tt, lit≤ tt)
+
 pub parts-small : (c : ℕ) → partsOf c ≤ 2
-parts-small zero = lit≤ tt
-parts-small (suc zero) = lit≤ tt
-parts-small (suc (suc zero)) = lit≤ tt
-parts-small (suc (suc (suc zero))) = lit≤ tt
-parts-small (suc (suc (suc (suc zero)))) = lit≤ tt
-parts-small (suc (suc (suc (suc (suc zero))))) = lit≤ tt
-parts-small (suc (suc (suc (suc (suc (suc zero)))))) = lit≤ tt
-parts-small (suc (suc (suc (suc (suc (suc (suc zero))))))) = lit≤ tt
-parts-small (suc (suc (suc (suc (suc (suc (suc (suc zero)))))))) = lit≤ tt
-parts-small (suc (suc (suc (suc (suc (suc (suc (suc (suc c))))))))) = lit≤ tt
+parts-small c = row-small c .1
 
 -- the operands of the code at a place, from a on; the parts below it, with one level less
 abbrev pub operandsAt : List ℕ → Scope → ℕ → ℕ → Reading
