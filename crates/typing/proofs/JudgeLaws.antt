@@ -167,7 +167,7 @@ marked-cond false r at = refl
 
 -- two parts, where it is known at which place the second stands
 times-both : (f : ℕ → Reading) (b m : ℕ) → ((a : ℕ) → f b ≡ Next a → a ≡ m) → readTimes 2 f b ≡ andThen (f b) (λ a. f m)
-times-both f b m h = go (f b) (h)
+times-both f b m h = go (f b) h
   where
     go : (l : Reading) → ((a : ℕ) → l ≡ Next a → a ≡ m) → andThen l (λ a. andThen (f a) (λ c. Next c)) ≡ andThen l (λ a. f m)
     go (Next a) h = rw (h a refl) (then-next (f m))
