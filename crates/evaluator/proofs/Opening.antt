@@ -7,14 +7,17 @@ use mathlib.Core.Option.{none, some}
 use mathlib.Core.List.{List}
 use lib.Dec.{eqb}
 use lib.ListN.{length, getD}
-use borrow.Author.Tests.{eqb-true, eqb-false}
+use borrow.Author.Tests.{eqb-true, eqb-false, ne-eqb}
 use Rattle.rules.specs.declared.Shape.{Shape}
 use Rattle.rules.specs.Codes.{shapeAt, partsOf}
-use Rattle.rules.specs.Parts.{Part, Id, namesOpen}
-use Rattle.rules.specs.Books.{useOf, noUse, mostDepth}
-use Rattle.rules.specs.Reading.{skip, after, built, partAt, bodyAt, useAt, lengthAt, readsAt, writesAt, bodyStart}
+use Rattle.rules.specs.Parts.{Part, Id, Drop, Test, Set, Not, Sum, Seq, Beside, Table, Open, namesOpen}
+use Rattle.rules.specs.Books.{useOf, noUse, mostDepth, Scope, Fine}
+use Rattle.rules.specs.Reading.{skip, after, built, partAt, bodyAt, useAt, lengthAt, readsAt, writesAt, bodyStart, mainOf}
 use Rattle.rules.proofs.ReadingLaws.{parts-small}
-use Rattle.evaluator.specs.Work.{Sees}
+use Rattle.rules.proofs.Decoding.{Bytes}
+use Rattle.rules.proofs.FineLaws.{OfUses}
+use Rattle.typing.proofs.Inside.{main-placed}
+use Rattle.evaluator.specs.Work.{Sees, IsAccepted, Populated}
 use Rattle.evaluator.specs.declared.Looked.{Looked}
 use Rattle.evaluator.proofs.WorkLaws.{no}
 use Rattle.evaluator.proofs.Decoder.{Stands, stands-zero, stands-end, stands-code}
@@ -87,6 +90,39 @@ names-use s x = go (eqb (lengthAt s x) 0)
         → namesOpen (useOf x (readsAt s x) (writesAt s x) (bodyStart s x) (cond b none (some (partAt s noUse mostDepth (bodyStart s x))))) ≡ b
     go true = refl
     go false = never s mostDepth (bodyStart s x)
+
+-- the tables before x are populated
+abbrev pub PopulatedTo : List ℕ → ℕ → Type 0
+PopulatedTo s x = (y : ℕ) → 0 < y → y < x → lengthAt s y ≡ 0 → ⊥
+
+pub populated-next : (s : List ℕ) (x : ℕ) → PopulatedTo s x → (lengthAt s x ≡ 0 → ⊥) → PopulatedTo s (x + 1)
+populated-next s x h g y l u e = go (eqb y x) refl
+  where
+    go : (b : Bool) → eqb y x ≡ b → ⊥
+    go true q = g (ap (lengthAt s) (sym (eqb-true y x q)) ∙ e)
+    go false q = h y l (omega (arith, eqb-false y x q)) e
+
+-- where every table is populated, a fine part names none that is not
+fine-closed : (c : Scope) (named : ℕ → Part) → OfUses (λ p. namesOpen p ≡ false) c named
+    → (d : ℕ) (pred : Bool) (p : Part) → Fine c named d pred p → namesOpen p ≡ false
+unfolding Fine namesOpen
+fine-closed c named u zero pred p f = absurd f
+fine-closed c named u (suc d) pred Id f = refl
+fine-closed c named u (suc d) pred Drop f = refl
+fine-closed c named u (suc d) pred (Test i v) f = refl
+fine-closed c named u (suc d) pred (Set i v) f = refl
+fine-closed c named u (suc d) pred (Not p) f = fine-closed c named u d true p f
+fine-closed c named u (suc d) pred (Sum p q) f = both 2 _ _ (fine-closed c named u d pred p (f .0)) (fine-closed c named u d pred q (f .1))
+fine-closed c named u (suc d) pred (Seq p q) f = both 2 _ _ (fine-closed c named u d pred p (f .0)) (fine-closed c named u d pred q (f .1))
+fine-closed c named u (suc d) pred (Beside wp wq p q) f =
+    both 2 _ _ (fine-closed c named u d pred p (f .3)) (fine-closed c named u d pred q (f .4))
+fine-closed c named u (suc d) pred (Table x r w start p) f = rw (f .4) at (u (f .1) x (f .2) (f .3))
+fine-closed c named u (suc d) pred (Open x r w) f = rw (f .4) at (u (f .1) x (f .2) (f .3))
+
+pub all-closed : (s : List ℕ) → IsAccepted s → Bytes s → Populated s → namesOpen (mainOf s) ≡ false
+all-closed s v small h =
+    fine-closed _ (useAt s) (λ m x l u. names-use s x ∙ ne-eqb (lengthAt s x) 0 (h x l u)) mostDepth false (mainOf s)
+    (main-placed s (v .0) (v .1) small .fine)
 
 pub sees-use : (s : List ℕ) (x b y at : ℕ) (f : Bool) → f ≡ eqb y 0 → y ≡ lengthAt s b → b ≡ x → Sees (useAt s x) at (looked f at)
 sees-use s x b y at f e g q =

@@ -8,7 +8,9 @@ use lib.ListN.{length, getD}
 use Rattle.rules.specs.Packets.{Packets, mostPackets}
 use Rattle.rules.specs.Parts.{Part, Test, Set, Not, Sum, Seq, Beside, parts, deep, namesOpen}
 use Rattle.rules.specs.Books.{mostParts, mostBeside, noUse}
-use Rattle.rules.specs.Reading.{partAt, useAt, after, numberAt}
+use Rattle.rules.specs.declared.Sizes.{Sizes}
+use Rattle.rules.specs.declared.Verdict.the-variants.{Accepted}
+use Rattle.rules.specs.Reading.{lengthAt, tablesOf, verdict, partAt, useAt, after, numberAt}
 use Rattle.rules.specs.Working.{out, steps, room, width}
 use Rattle.rules.specs.declared.Evaluated.{Evaluated}
 use Rattle.rules.specs.Answers.{evaluated, evaluatedResult}
@@ -90,6 +92,13 @@ pub record Joins (s : Packets) (v : List ℕ) (a b r : Worked) : Type 0 where
 pub record Sees (p : Part) (n : ℕ) (r : Looked) : Type 0 where
   pub found : r .found ≡ namesOpen p
   pub next : r .found ≡ false → r .next ≡ n
+
+-- an accepted book; a book whose tables all have a body
+abbrev pub IsAccepted : List ℕ → Type 0
+IsAccepted s = (z : Sizes) × (verdict s ≡ Accepted z)
+
+abbrev pub Populated : List ℕ → Type 0
+Populated s = (x : ℕ) → 0 < x → x ≤ tablesOf s → lengthAt s x ≡ 0 → ⊥
 
 -- the answer to a book and a packet, and the words of the result buffer before and after
 abbrev pub Answers : List ℕ → List ℕ → List ℕ → List ℕ → Evaluated → Type 0

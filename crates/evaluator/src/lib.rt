@@ -12,13 +12,13 @@ ghost use Prim.Native.Nat.{ℕ, _+_, _-_, _*_, _<_, _≤_, max};
 ghost use lib.ListN.{getD, length, drop};
 ghost use Rattle.rules.specs.declared.Verdict.the-variants.{Accepted};
 ghost use Rattle.rules.specs.Packets.{Packets, without, padded, keep, lacks};
-ghost use Rattle.rules.specs.Parts.{Part, Drop, Not, Seq, Beside, Table};
-ghost use Rattle.rules.specs.Reading.{numberAt, after, useAt, partAt, verdict};
+ghost use Rattle.rules.specs.Parts.{Part, Drop, Not, Seq, Beside, Table, namesOpen};
+ghost use Rattle.rules.specs.Reading.{numberAt, after, useAt, partAt, mainOf, verdict};
 ghost use Rattle.rules.specs.Working.{out};
 ghost use Rattle.rules.specs.Answers.{startSet, evaluated, evaluatedResult};
 ghost use Rattle.rows.specs.Chunks.{chunks, rowAt, Packed, Held, Fits};
 ghost use Rattle.evaluator.specs.Work.{namedIn, partIn, testAt, setAt, notFrom, sumFrom, seqFrom, besideAt};
-ghost use Rattle.evaluator.specs.Work.{afterTwo, Fair, Fine, Did, Small, Joins, Sees, Answers, worked};
+ghost use Rattle.evaluator.specs.Work.{afterTwo, Fair, Fine, Did, Small, Joins, Sees, IsAccepted, Populated, Answers, worked};
 
 // What a part gives on the packets of a lent array: too wide, or how many they are then, its steps and its room, and the place after it.
 struct Worked {
@@ -467,6 +467,33 @@ fn look_part(book: &[u8], at: usize, depth: usize) -> Looked
     look_part(book, middle, depth - 1)
 }
 
+// Whether every table is populated.
+fn all_populated(book: &[u8]) -> bool
+    ensures { λ r. ⌜ (r ≡ true → Populated (now (book .entry))) ⌝ }
+{
+    let m = book::byte_at(book, 1) as usize;
+    let mut x: usize = 1;
+    while x <= m {
+        if book::length_of(book, x as u8) == 0 {
+            return false;
+        }
+        x += 1;
+    }
+    true
+}
+
+// Whether the main policy names an unpopulated table (9). Its parts are looked through only where there is such a table.
+fn names_open(book: &[u8]) -> bool
+    requires { ⌜ IsAccepted (now book) ⌝ }
+    ensures { λ r. ⌜ r ≡ namesOpen (mainOf (now (book .entry))) ⌝ }
+{
+    if all_populated(book) {
+        return false;
+    }
+    let seen = look_part(book, book::body_start(book, 0), 32);
+    seen.found
+}
+
 // The words of a packet, and zeros after them.
 fn padded(packet: &[u16]) -> [u16; 8]
     requires { ⌜ length (now packet) ≤ 8 ⌝ }
@@ -501,11 +528,10 @@ fn evaluate_accepted(book: &[u8], packet: &[u16], result: &mut [u16], z: Sizes) 
     if result.len() < 16 * k {
         return Evaluated::NotGiven(Refusal::BufferLength);
     }
-    let start = book::body_start(book, 0);
-    let seen = look_part(book, start, 32);
-    if seen.found {
+    if names_open(book) {
         return Evaluated::NotGiven(Refusal::Unpopulated);
     }
+    let start = book::body_start(book, 0);
     let mut v = [0u16; 128];
     start_in(packet, &mut v);
     let w = evaluate_part(book, true, start, 32, &mut v, 1);
