@@ -4,6 +4,7 @@ pub mod Fillings
 pub mod Comparing
 pub mod Inserting
 pub mod Ascents
+pub mod Merging
 pub mod Sliding
 pub mod Sifting
 pub mod Pairing

@@ -2,4 +2,5 @@
 pub mod Chunks
 pub mod Arrays
 pub mod Inserts
+pub mod Merges
 pub mod Areas

@@ -12,6 +12,7 @@ ghost use Rattle.rows.specs.Chunks.{chunks, rowAt, Packed, Held, Fits};
 ghost use Rattle.rows.specs.Arrays.{eightAt, storedAt, putRow, cleared, Written};
 ghost use Rattle.rows.specs.Inserts.{Placed, Shifted, Inserted, Joined};
 ghost use Rattle.rows.specs.Inserts.{toFirst};
+ghost use Rattle.rows.specs.Merges.{Leads};
 ghost use Rattle.rows.specs.Areas.{within, wordsAt, pastedAt, Emitted};
 use rules::Order;
 
@@ -258,23 +259,71 @@ pub fn set_in(v: &mut [u16; 128], n: usize, f: usize, x: u16) -> usize
     gather_into(v, &y, n)
 }
 
-// The packets of b put in among the first n of v; gives how many they are then, or 17 and zeros, where they are more than 16.
+// The next packet of a merge, and where the two sets go on after it.
+struct Turn {
+    row: [u16; 8],
+    i: usize,
+    j: usize,
+}
+
+fn taking(p: [u16; 8], i: usize, j: usize) -> Turn
+    ensures { λ t. ⌜ t ≡ record { row = p; i = i; j = j } ⌝ }
+{
+    Turn { row: p, i, j }
+}
+
+// The next packet of the union of the first n packets of a, from i on, and the first m of b, from j on.
+fn lead(a: &[u16; 128], i: usize, n: usize, b: &[u16; 128], j: usize, m: usize) -> Turn
+    requires { ⌜ (i ≤ n) × (j ≤ m) × (i + j < n + m) × Packed (now a) n × Packed (now b) m ⌝ }
+    ensures { λ t. ⌜ Leads t (chunks n (now (a .entry))) (chunks m (now (b .entry))) i j ⌝ }
+{
+    if j < m {
+        if i < n {
+            let o = order_at(a, i * 8, b, j * 8);
+            match o {
+                Order::Less => taking(row(a, i), i + 1, j),
+                Order::Same => taking(row(a, i), i + 1, j + 1),
+                Order::More => taking(row(b, j), i, j + 1),
+            }
+        } else {
+            taking(row(b, j), i, j + 1)
+        }
+    } else {
+        taking(row(a, i), i + 1, j)
+    }
+}
+
+// The packets of a and of b, put into an array of zeros; gives how many they are, or 17 and the zeros, where they are more than 16.
+fn merge_into(v: &mut [u16; 128], a: &[u16; 128], n: usize, b: &[u16; 128], m: usize) -> usize
+    requires { ⌜ Held (now v) 0 [] × Packed (now a) n × Packed (now b) m ⌝ }
+    ensures { λ r. ⌜ Fits (now (v .exit)) r (union (chunks n (now (a .entry))) (chunks m (now (b .entry)))) ⌝ }
+{
+    let mut i = 0;
+    let mut j = 0;
+    let mut k = 0;
+    while i + j < n + m {
+        if k == 16 {
+            clear_rows(v, 0, 16);
+            return 17;
+        }
+        let t = lead(a, i, n, b, j, m);
+        let p = t.row;
+        put_row(v, k, p);
+        i = t.i;
+        j = t.j;
+        k += 1;
+    }
+    k
+}
+
+// The packets of v and of b, merged and put back into v; gives how many they are, or 17 and zeros, where they are more than 16.
 pub fn union_in(v: &mut [u16; 128], n: usize, b: &[u16; 128], m: usize) -> usize
     requires { ⌜ Packed (now v) n × Packed (now b) m ⌝ }
     ensures { λ r. ⌜ Fits (now (v .exit)) r (union (chunks n (now (v .entry))) (chunks m (now (b .entry)))) ⌝ }
 {
-    let mut j = 0;
-    let mut k = n;
-    while j < m {
-        let p = row(b, j);
-        k = insert_in(v, k, p);
-        if 16 < k {
-            clear_rows(v, 0, 16);
-            return 17;
-        }
-        j += 1;
-    }
-    k
+    let a = *v;
+    clear_rows(v, 0, n);
+    merge_into(v, &a, n, b, m)
 }
 
 // How packet i of a lies to packet j of b, which has m; before it, where b has no such packet.
