@@ -14,7 +14,8 @@ use Rattle.rules.specs.Parts.{Part, Id, Drop, Test, Set, Not, Sum, Seq, Beside,
 use Rattle.rules.specs.declared.Refusal.the-variants.{Limits}
 use Rattle.rules.specs.declared.Verdict.the-variants.{Accepted, Refused}
 use Rattle.rules.specs.Books.{noUse, mostDepth, mostParts, mostBeside}
-use Rattle.rules.specs.Reading.{below, after, built, partAt, fieldsOf, tablesOf, lengthAt, readsAt, writesAt, bodyStart, bodyAt, useAt, mainOf, sizesOf}
+use Rattle.rules.specs.Reading.{below, after, built, partAt, fieldsOf, tablesOf, lengthAt, readsAt, writesAt, bodyStart}
+use Rattle.rules.specs.Reading.{bodyAt, useAt, mainOf, sizesOf}
 use Rattle.book.specs.declared.Count.{Count}
 use Rattle.book.specs.declared.Counted.{Counted}
 use Rattle.book.specs.declared.Counted.the-variants.{Fits, Over}

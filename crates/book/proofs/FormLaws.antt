@@ -20,7 +20,8 @@ use Rattle.rules.specs.declared.Verdict.the-variants.{Accepted, Refused}
 use Rattle.rules.specs.Masks.{apart, inFields}
 use Rattle.rules.specs.Parts.{parts, deep}
 use Rattle.rules.specs.Books.{masksFit, mostBytes, mostFields, mostTables, mostParts, mostBeside}
-use Rattle.rules.specs.Reading.{fieldsOf, tablesOf, readsAt, writesAt, bodyStart, masksRight, readEntries, mainOf, policyOf, typingFaults, sizesOf, unless, unlessWrong, unlessFault, verdict}
+use Rattle.rules.specs.Reading.{fieldsOf, tablesOf, readsAt, writesAt, bodyStart, masksRight, readEntries, mainOf}
+use Rattle.rules.specs.Reading.{policyOf, typingFaults, sizesOf, unless, unlessWrong, unlessFault, verdict}
 use Rattle.rules.proofs.Decoding.{and-was}
 use Rattle.rules.proofs.Whole.{Readable}
 use Rattle.book.specs.Counting.{limited}

@@ -16,7 +16,8 @@ use Rattle.rules.specs.declared.Reading.{Reading}
 use Rattle.rules.specs.declared.Reading.the-variants.{Next, Wrong}
 use Rattle.rules.specs.Reading.{andThen, byteIf, stands, operandFits, readOperands, readTimes, readPart, readBody}
 use Rattle.rules.specs.Reading.{readEntry, readEntries, bodyStart, lengthAt, fieldsOf, tablesOf}
-use Rattle.rules.proofs.ReadingLaws.{operandsAt, partBelow, times-none, times-wrong, times-one, part-wrong, part-deep, part-operands, part-parts, part-two, below-is, body-wrong, body-whole, body-rest}
+use Rattle.rules.proofs.ReadingLaws.{operandsAt, partBelow, times-none, times-wrong, times-one, part-wrong, part-deep}
+use Rattle.rules.proofs.ReadingLaws.{part-operands, part-parts, part-two, below-is, body-wrong, body-whole, body-rest}
 
 -- what is known of a part whose operands are read, b being the place after them and x the row of its code; and once the part
 -- on the left was read

@@ -343,7 +343,8 @@ fn count_two(code: u8, l: Count, r: Count) -> Count
 // The parts of the part at a place, those of the table bodies that it uses too, if they are at most budget.
 fn count_part(book: &[u8], main: bool, at: usize, depth: usize, budget: usize) -> Counted
     requires { ⌜ budget ≤ 1023 ⌝ }
-    ensures { λ r. ⌜ r ≡ counted budget (partAt (now (book .entry)) (uses (now (book .entry)) main) depth at) (after (now (book .entry)) depth at) ⌝ }
+    ensures { λ r. ⌜ r ≡ counted budget (partAt (now (book .entry)) (uses (now (book .entry)) main) depth at)
+        (after (now (book .entry)) depth at) ⌝ }
 {
     if budget == 0 {
         return Counted::Over;

@@ -87,7 +87,8 @@ unfolding useAt bodyAt namesOpen
 names-use s x = go (eqb (lengthAt s x) 0)
   where
     go : (b : Bool)
-        → namesOpen (useOf x (readsAt s x) (writesAt s x) (bodyStart s x) (cond b none (some (partAt s noUse mostDepth (bodyStart s x))))) ≡ b
+        → namesOpen (useOf x (readsAt s x) (writesAt s x) (bodyStart s x)
+        (cond b none (some (partAt s noUse mostDepth (bodyStart s x))))) ≡ b
     go true = refl
     go false = never s mostDepth (bodyStart s x)
 

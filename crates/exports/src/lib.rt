@@ -140,7 +140,8 @@ pub extern "C" fn hamstedew_run(
     progress: &mut [u64],
 ) -> u64
     ensures { λ r. ⌜ RunFace (now (book .entry)) (now (packet .entry)) (now (schedule .entry))
-        (now (result .entry)) (now (result .exit)) (now (area .entry)) (now (area .exit)) (now (progress .entry)) (now (progress .exit)) r ⌝ }
+        (now (result .entry)) (now (result .exit)) (now (area .entry)) (now (area .exit))
+        (now (progress .entry)) (now (progress .exit)) r ⌝ }
 {
     if progress.len() < 5 {
         return 255;

@@ -15,6 +15,7 @@ use Rattle.rules.specs.Packets.{Packets, Ascending, keep, lacks}
 use Rattle.rules.specs.Parts.{Part, Id, Seq}
 use Rattle.rules.specs.States.{Spot, join, place, enter}
 use Rattle.rules.proofs.Lists.{All, none, also, all-at}
+use Rattle.rules.proofs.Decoding.{and-was}
 use Rattle.machine.specs.Area.{Pos, here, nodes, order, Wf, given, finished, Becomes}
 use Rattle.machine.specs.Ready.{fin, rdL, marks}
 use Rattle.machine.specs.Shown.{Live, Placed, Done, Waiting, Negated, Both, flat, partOf, spotOf, joinOf, meantBy, meant, state}
@@ -75,10 +76,6 @@ fin-there w live j l e =
       | yes h ↦ (h, sym (phase-from w j (omega arith)) ∙ eqb-true (getD w (j * 8 + 1) 0) 1 (sym (fin-at w live l j h) ∙ e))
       | no h ↦ absurd (false≢true (sym (fin-past w live l j (omega arith)) ∙ e))
     ]
-
-and-both : (a b : Bool) → (a && b) ≡ true → (a ≡ true) × (b ≡ true)
-and-both true b e = (refl, e)
-and-both false b e = absurd (false≢true e)
 
 module _ (s w : List ℕ) (live i : ℕ) (h : Stepping s w live i) where
   abbrev x₀ : Pos
@@ -261,7 +258,7 @@ module _ (s w : List ℕ) (live i : ℕ) (h : Stepping s w live i) where
     two-below =
         let a : Bool = fin (drop (i + 1) (marks w live)) in
         let b : Bool = fin (drop (i + 2) (marks w live)) in
-        let e = and-both a b (sym (rdK-two (here w i .phase) a b four) ∙ ready-is) in
+        let e = and-was a b (sym (rdK-two (here w i .phase) a b four) ∙ ready-is) in
         (fin-there w live (i + 1) (h .few) (e .0), fin-there w live (i + 2) (h .few) (e .1))
 
     at-both : meant s (here w i) ≡ Both (joinOf s (here w i .phase - 4) (here w i .place))

@@ -7,7 +7,9 @@ use Rattle.rules.specs.Packets.{padded, passes, put, mix, orderOf, insert, unio
 use Rattle.rules.specs.Parts.{write, parts, deep, namesOpen}
 use Rattle.rules.specs.Typing.{tested, written, rightMasks, fitMasks, wrongs}
 use Rattle.rules.specs.Books.{entries, bytesOf, masksFit}
-use Rattle.rules.specs.Reading.{byteIf, stands, operandFits, readOperands, readPart, readBody, bodyStart, readEntry, readEntries, masksRight, after, built, partAt, bodyAt, useAt, mainOf, tablesFrom, policyOf, wrongBody, misfit, wrongsIn, misfitsIn, typingFaults, sizesOf, verdict}
+use Rattle.rules.specs.Reading.{byteIf, stands, operandFits, readOperands, readPart, readBody, bodyStart, readEntry}
+use Rattle.rules.specs.Reading.{readEntries, masksRight, after, built, partAt, bodyAt, useAt, mainOf, tablesFrom}
+use Rattle.rules.specs.Reading.{policyOf, wrongBody, misfit, wrongsIn, misfitsIn, typingFaults, sizesOf, verdict}
 use Rattle.rules.specs.Working.{each, out, steps, room, own, widest, width}
 use Rattle.rules.specs.States.{join, place, enter, finish, leave, next, live, move, run, counted, made, used, lacking, stuckSteps, stuckIn}
 use Rattle.rules.specs.Answers.{start, ran}

@@ -24,7 +24,8 @@ use Rattle.rules.specs.Parts.{namesOpen}
 use Rattle.rules.specs.Reading.{fieldsOf, mainOf, verdict}
 use Rattle.rules.specs.Working.{room, width}
 use Rattle.rules.specs.States.{finish, run, made, stuckIn}
-use Rattle.rules.specs.Answers.{mostPositions, areaWords, startSet, startSpot, given, start, elseNotRun, ranOf, elseStuck, stopped, ran, ranResult, overwritten, finalOf}
+use Rattle.rules.specs.Answers.{mostPositions, areaWords, startSet, startSpot, given, start, elseNotRun, ranOf}
+use Rattle.rules.specs.Answers.{elseStuck, stopped, ran, ranResult, overwritten, finalOf}
 use Rattle.rules.proofs.Lists.{All, none, also}
 use Rattle.rules.proofs.Sets.{map-in}
 use Rattle.rules.proofs.Padding.{as-long}

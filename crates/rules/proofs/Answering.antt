@@ -21,7 +21,8 @@ use Rattle.rules.specs.Parts.{namesOpen}
 use Rattle.rules.specs.Reading.{fieldsOf, mainOf, verdict}
 use Rattle.rules.specs.Working.{room, width}
 use Rattle.rules.specs.States.{finish, run, made, stuckIn}
-use Rattle.rules.specs.Answers.{mostPositions, areaWords, startSet, outcome, elseNotGiven, evaluatedOf, evaluated, evaluatedResult, start, elseStuck, stopped, ran, ranResult, ranArea}
+use Rattle.rules.specs.Answers.{mostPositions, areaWords, startSet, outcome, elseNotGiven, evaluatedOf, evaluated}
+use Rattle.rules.specs.Answers.{evaluatedResult, start, elseStuck, stopped, ran, ranResult, ranArea}
 
 -- ---- what an evaluation and a run ask of a book and a packet
 
@@ -72,7 +73,8 @@ module _ (book packet : List ℕ) (words : ℕ) where
                 lt-leb (width (mainOf book) (startSet packet)) mostPackets h,
               )
 
-  pub evaluated-given : Granted book packet → mostPackets * fieldsOf book ≤ words → evaluated book packet words ≡ Given (outcome book packet)
+  pub evaluated-given : Granted book packet → mostPackets * fieldsOf book ≤ words
+      → evaluated book packet words ≡ Given (outcome book packet)
   unfolding evaluated
   evaluated-given g b =
       rw (
@@ -116,7 +118,8 @@ given-was book packet words o q =
 
 -- ---- a run that is admitted stops as its schedule says
 
-pub ran-admitted : (book packet schedule : List ℕ) (words area : ℕ) → Admitted book packet → mostPackets * fieldsOf book ≤ words → areaWords ≤ area
+pub ran-admitted : (book packet schedule : List ℕ) (words area : ℕ) → Admitted book packet → mostPackets * fieldsOf book ≤ words
+    → areaWords ≤ area
     → ran book packet schedule words area
     ≡ elseStuck (stuckIn (start book packet) schedule)
     (stopped (made (start book packet) schedule) (run (start book packet) schedule) (finish (run (start book packet) schedule)))

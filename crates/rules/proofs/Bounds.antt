@@ -1,7 +1,8 @@
 -- Widths: packets handed and given are within the width. Where no set on the way has more than 16 packets the steps of a part are at
 -- most 4 · n · 16^D; the room is at most one more than the steps.
 use Prim.Native.Nat.{ℕ, suc, _+_, _*_, _^_, _≤_, max}
-use native.Mathlib.Nat.{mul-assoc, mul-comm, add-mul, mul-le-mul, mul-le-mul-left, mul-le-mul-right, pow-le-pow-right, pow-succ', one-le-pow}
+use native.Mathlib.Nat.{mul-assoc, mul-comm, add-mul, mul-le-mul, mul-le-mul-left, mul-le-mul-right, pow-le-pow-right}
+use native.Mathlib.Nat.{pow-succ', one-le-pow}
 use native.Mathlib.Omega.{arith}
 use mathlib.Core.Path.{_≡_, refl, ap}
 use mathlib.Core.List.{[], _∷_}

@@ -10,7 +10,10 @@ use Rattle.rules.specs.Packets.{Packets, padded, passes, put, mix, witho
 use Rattle.rules.specs.Parts.{Part, Id, Test, Set, Seq, Beside, write, parts, deep}
 use Rattle.rules.specs.Typing.{tested, written, rightMasks, fitMasks, wrongs}
 use Rattle.rules.specs.Books.{entries, bytesOf, masksFit}
-use Rattle.rules.specs.Reading.{byteIf, stands, operandFits, readOperands, readPart, readBody, bodyStart, readEntry, readEntries, masksRight, after, built, partAt, bodyAt, useAt, mainOf, tablesFrom, policyOf, wrongBody, misfit, wrongsIn, misfitsIn, typingFaults, sizesOf, verdict}
+use Rattle.rules.specs.Reading.{byteIf, stands, operandFits, readOperands, readPart, readBody, bodyStart}
+use Rattle.rules.specs.Reading.{readEntry, readEntries, masksRight, after, built, partAt, bodyAt, useAt, mainOf}
+use Rattle.rules.specs.Reading.{tablesFrom, policyOf, wrongBody, misfit, wrongsIn, misfitsIn, typingFaults}
+use Rattle.rules.specs.Reading.{sizesOf, verdict}
 use Rattle.rules.specs.Working.{each, out}
 use Rattle.rules.specs.States.{place, enter, finish, leave, next, move, used, lacking, stuckSteps, stuckIn}
 use Rattle.rules.specs.Answers.{Says, refusal, refusalSays, verdictSays}

@@ -16,7 +16,8 @@ use Rattle.rules.specs.declared.Reading.the-variants.{Next, Wrong}
 use Rattle.rules.specs.Codes.{operandsOf, partsOf}
 use Rattle.rules.specs.Parts.{Part, Id, Drop, Test, Set, Not, Sum, Seq, Beside, Table, Open, write, size}
 use Rattle.rules.specs.Books.{mostDepth, Scope, Fine}
-use Rattle.rules.specs.Reading.{andThen, byteIf, stands, operandFits, readOperands, readTimes, readPart, readBody, numberAt, skip, after, built, partAt}
+use Rattle.rules.specs.Reading.{andThen, byteIf, stands, operandFits, readOperands, readTimes, readPart, readBody}
+use Rattle.rules.specs.Reading.{numberAt, skip, after, built, partAt}
 use Rattle.rules.proofs.ReadingLaws.{byte-was, byte-next, parts-small, body-whole}
 
 -- every number of s is a byte

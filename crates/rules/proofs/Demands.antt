@@ -9,7 +9,9 @@ use mathlib.Core.List.{List, [], map}
 use lib.Dec.{lit≤}
 use lib.ListN.{length, take}
 use Rattle.rules.specs.declared.Refusal.{Refusal}
-use Rattle.rules.specs.declared.Refusal.the-variants.{BookLength, Counts, Lengths, EntryMasks, Form, Limits, Typing, PacketLength, Unpopulated, TooWide, Positions, BufferLength, Stuck, Input}
+use Rattle.rules.specs.declared.Refusal.the-variants.{BookLength, Counts, Lengths, EntryMasks, Form, Limits}
+use Rattle.rules.specs.declared.Refusal.the-variants.{Typing, PacketLength, Unpopulated, TooWide, Positions}
+use Rattle.rules.specs.declared.Refusal.the-variants.{BufferLength, Stuck, Input}
 use Rattle.rules.specs.declared.Sizes.{Sizes}
 use Rattle.rules.specs.declared.Verdict.{Verdict}
 use Rattle.rules.specs.declared.Verdict.the-variants.{Accepted}
@@ -23,7 +25,8 @@ use Rattle.rules.specs.Reading.{fieldsOf, mainOf, verdict}
 use Rattle.rules.specs.Meaning.{Gives}
 use Rattle.rules.specs.Working.{room}
 use Rattle.rules.specs.States.{live, run, stuckIn}
-use Rattle.rules.specs.Answers.{numberOf, areaWords, startSet, startSpot, given, evaluated, evaluatedResult, start, ran, ranResult, ranArea}
+use Rattle.rules.specs.Answers.{numberOf, areaWords, startSet, startSpot, given, evaluated, evaluatedResult}
+use Rattle.rules.specs.Answers.{start, ran, ranResult, ranArea}
 use Rattle.rules.proofs.Lists.{All}
 use Rattle.rules.proofs.Measures.{held}
 use Rattle.rules.proofs.Serial.{Paired, serializes, commutes}
@@ -34,7 +37,8 @@ use Rattle.rules.proofs.Bounds.{steps-bound}
 use Rattle.rules.proofs.Stuck.{Has, never-stuck}
 use Rattle.rules.proofs.Decoding.{Bytes}
 use Rattle.rules.proofs.Acceptance.{exactly, unique}
-use Rattle.rules.proofs.AcceptedBooks.{accepted-fields, accepted-formed, accepted-right, accepted-below, accepted-tested, accepted-written}
+use Rattle.rules.proofs.AcceptedBooks.{accepted-fields, accepted-formed, accepted-right, accepted-below}
+use Rattle.rules.proofs.AcceptedBooks.{accepted-tested, accepted-written}
 use Rattle.rules.proofs.Answering.{Granted, Admitted, not-given-keeps, not-run-keeps}
 use Rattle.rules.proofs.Runs.{stepsOf, Stops, stops, same-words}
 -- the trials of document 01 marked *, the need of each condition of a right concurrent part, and the trap of pairing across packets
@@ -105,7 +109,8 @@ module _ (book packet : List ℕ) (bytes : Bytes book) (granted : Granted book p
       (accepted-fields book z a .1) (accepted-below book z a bytes) packet (granted .words)
 
   -- and that determines them
-  pub packets-determined : (t : Packets) → Ascending t → ((b : Packet) → (b ∈ t) ↔ Gives (mainOf book) packet b) → t ≡ packetsGiven book packet
+  pub packets-determined : (t : Packets) → Ascending t → ((b : Packet) → (b ∈ t) ↔ Gives (mainOf book) packet b)
+      → t ≡ packetsGiven book packet
   unfolding given
   packets-determined =
       let z = granted .sizes in
@@ -152,7 +157,8 @@ module _ (book packet : List ℕ) (bytes : Bytes book) (admitted : Admitted book
   unfolding start
   room-enough = live-room (startSpot book) (mainOf book) (startSet packet)
 
-  pub room-needed : (schedule : List ℕ) × All (λ b. b < 256) schedule × (live (run (start book packet) schedule) ≡ room (mainOf book) (startSet packet))
+  pub room-needed : (schedule : List ℕ) × All (λ b. b < 256) schedule
+      × (live (run (start book packet) schedule) ≡ room (mainOf book) (startSet packet))
   unfolding start
   room-needed = room-reached (startSpot book) (mainOf book) (startSet packet) (omega (arith, admitted .positions))
 

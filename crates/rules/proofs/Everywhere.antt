@@ -3,7 +3,8 @@ use Prim.Native.Nat.{ℕ, _+_}
 use mathlib.Core.List.{List, [], _∷_}
 use Rattle.rules.specs.Packets.{Packets}
 use Rattle.rules.specs.Parts.{Part, Id, Drop, Test, Set, Not, Sum, Seq, Beside, Table, Open, size}
-use Rattle.rules.specs.States.{Spot, on, moved, losing, Join, Tree, placed, done, waiting, negated, both, place, enter, finish, leave, next, run}
+use Rattle.rules.specs.States.{Spot, on, moved, losing, Join, Tree, placed, done, waiting, negated, both, place}
+use Rattle.rules.specs.States.{enter, finish, leave, next, run}
 use Rattle.rules.proofs.Lists.{All, none, also, all-append, all-map}
 use Rattle.rules.proofs.Schedules.{run-keeps}
 

@@ -9,7 +9,8 @@ use mathlib.Core.Option.{Option, none, some}
 use lib.ListN.{length}
 use Rattle.rules.specs.Parts.{Part, Id, Drop, Test, Set, Not, Sum, Seq, Beside, Table, Open, size}
 use Rattle.rules.specs.Typing.{rightBeside, fits, Right, wrongs}
-use Rattle.rules.specs.Books.{mostDepth, Entry, Policy, entries, bytesOf, firstBody, useOf, tableOf, Scope, scopeOf, noUse, Fine, OfBody, OfEach, WellFormed, Typed}
+use Rattle.rules.specs.Books.{mostDepth, Entry, Policy, entries, bytesOf, firstBody, useOf, tableOf, Scope}
+use Rattle.rules.specs.Books.{scopeOf, noUse, Fine, OfBody, OfEach, WellFormed, Typed}
 use Rattle.rules.specs.Reading.{wrongBody, misfit, wrongsIn, misfitsIn, typingFaults}
 use Rattle.rules.proofs.Whole.{FineBody}
 use Rattle.rules.proofs.FineLaws.{OfUses, no-uses, of-tables}

@@ -12,7 +12,8 @@ use lib.Pow.{pow-lt, pow-pos}
 use Rattle.rules.specs.Masks.{has, allFields}
 use Rattle.rules.specs.Parts.{Part, Id, Drop, Test, Set, Not, Sum, Seq, Beside, Table, Open, Predicate, Formed}
 use Rattle.rules.specs.Typing.{tested, written}
-use Rattle.rules.specs.Books.{mostDepth, Entry, Policy, entries, useOf, noEntry, tableOf, Scope, scopeOf, noUse, Fine, masksFit, OfBody, OfEach, WellFormed}
+use Rattle.rules.specs.Books.{mostDepth, Entry, Policy, entries, useOf, noEntry, tableOf, Scope, scopeOf, noUse}
+use Rattle.rules.specs.Books.{Fine, masksFit, OfBody, OfEach, WellFormed}
 use Rattle.rules.proofs.MaskLaws.{Sub, has-and}
 use Rattle.rules.proofs.Decoding.{and-was}
 use Rattle.rules.proofs.Whole.{FineBody}
@@ -97,7 +98,8 @@ module _ (c : Scope) (named : ℕ → Part) where
 
   -- ---- T and M below 2 ^ k
 
-  pub fine-masks : OfUses (MasksBelow (c .fields)) c named → (d : ℕ) (pred : Bool) (p : Part) → Fine c named d pred p → MasksBelow (c .fields) p
+  pub fine-masks : OfUses (MasksBelow (c .fields)) c named → (d : ℕ) (pred : Bool) (p : Part) → Fine c named d pred p
+      → MasksBelow (c .fields) p
   unfolding Fine tested written
   fine-masks u zero pred p f = absurd f
   fine-masks u (suc d) pred Id f = (pow-pos (c .fields), pow-pos (c .fields))

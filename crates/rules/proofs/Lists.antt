@@ -12,7 +12,8 @@ pub all-append : {A : Type 0} {P : A → Type 0} {xs ys : List A} → All P xs �
 all-append none k = k
 all-append (also p h) k = also p (all-append h k)
 
-pub all-map : {A B : Type 0} {Q : A → Type 0} {P : B → Type 0} {xs : List A} (f : A → B) → ((x : A) → Q x → P (f x)) → All Q xs → All P (map f xs)
+pub all-map : {A B : Type 0} {Q : A → Type 0} {P : B → Type 0} {xs : List A} (f : A → B) → ((x : A) → Q x → P (f x)) → All Q xs
+    → All P (map f xs)
 all-map f g none = none
 all-map f g (also {x} p h) = also (g x p) (all-map f g h)
 

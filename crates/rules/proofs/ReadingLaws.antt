@@ -123,7 +123,8 @@ module _ (s : List ℕ) (ok : ℕ → ℕ → Bool) (n i at : ℕ) (h : i < n) w
   pub operands-wrong : at < length s → ok i (getD s at 0) ≡ false → readOperands s ok (n - i) i at ≡ Wrong at
   operands-wrong l e = rw (operands-more s ok n i at h, ← byte-wrong s (ok i) at l e)
 
-  pub operands-step : at < length s → ok i (getD s at 0) ≡ true → readOperands s ok (n - i) i at ≡ readOperands s ok (n - (i + 1)) (i + 1) (at + 1)
+  pub operands-step : at < length s → ok i (getD s at 0) ≡ true
+      → readOperands s ok (n - i) i at ≡ readOperands s ok (n - (i + 1)) (i + 1) (at + 1)
   operands-step l e = rw (operands-more s ok n i at h, ← byte-next s (ok i) at l e)
 
 -- what stands after a byte that was read
@@ -132,7 +133,8 @@ pub byte-was : (s : List ℕ) (ok : ℕ → Bool) (at a : ℕ) → byteIf s ok a
 unfolding byteIf
 byte-was s ok at a = go (ltb at (length s)) refl (ok (getD s at 0)) refl
   where
-    go : (x : Bool) → ltb at (length s) ≡ x → (y : Bool) → ok (getD s at 0) ≡ y → cond x (cond y (Next (at + 1)) (Wrong at)) (Wrong (length s)) ≡ Next a
+    go : (x : Bool) → ltb at (length s) ≡ x → (y : Bool) → ok (getD s at 0) ≡ y
+        → cond x (cond y (Next (at + 1)) (Wrong at)) (Wrong (length s)) ≡ Next a
         → (at < length s) × (ok (getD s at 0) ≡ true) × (a ≡ at + 1)
     go true e true f q = (ltb-true at (length s) e, f, cc)
     go true e false f q = let z : _≡_ {A = ℕ} 0 1 = cc in absurd (omega arith)

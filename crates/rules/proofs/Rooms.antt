@@ -9,7 +9,8 @@ use lib.ListN.{length, getD, length-append, length-map}
 use Rattle.rules.specs.Packets.{Packet, Packets, without}
 use Rattle.rules.specs.Parts.{Part, Id, Drop, Test, Set, Not, Sum, Seq, Beside, Table, Open}
 use Rattle.rules.specs.Working.{each, out, room}
-use Rattle.rules.specs.States.{Spot, Join, entered, split, paired, Tree, placed, done, waiting, negated, both, place, enter, finish, leave, next, live, ready, move, run}
+use Rattle.rules.specs.States.{Spot, Join, entered, split, paired, Tree, placed, done, waiting, negated, both}
+use Rattle.rules.specs.States.{place, enter, finish, leave, next, live, ready, move, run}
 use Rattle.rules.proofs.Lists.{All, none, also, all-at}
 use Rattle.rules.proofs.Measures.{final, rest, peak}
 use Rattle.rules.proofs.Steps.{Step, next-step, place-final, place-peak}

@@ -33,17 +33,20 @@ pub data Stops (book packet schedule : List ℕ) (a : Ran) : Type 0 where
 
 module _ (book packet schedule : List ℕ) (words area : ℕ) (admitted : Admitted book packet)
     (fit : mostPackets * fieldsOf book ≤ words) (wide : areaWords ≤ area) (right : Right (mainOf book))
-    (tests : Sub (tested (mainOf book)) (allFields (fieldsOf book))) (writes : Sub (written (mainOf book)) (allFields (fieldsOf book))) where
+    (tests : Sub (tested (mainOf book)) (allFields (fieldsOf book)))
+    (writes : Sub (written (mainOf book)) (allFields (fieldsOf book))) where
   -- no step is stuck: the run stops where its schedule ends or it is finished
   pub ran-stopped : ran book packet schedule words area
       ≡ stopped (made (start book packet) schedule) (run (start book packet) schedule) (finish (run (start book packet) schedule))
   unfolding start
   ran-stopped =
       ran-admitted book packet schedule words area admitted fit wide
-      ∙ ap (λ (l : List ℕ). elseStuck l (stopped (made (start book packet) schedule) (run (start book packet) schedule) (finish (run (start book packet) schedule))))
+      ∙ ap (λ (l : List ℕ). elseStuck l
+      (stopped (made (start book packet) schedule) (run (start book packet) schedule) (finish (run (start book packet) schedule))))
       (never-stuck (startSpot book) (mainOf book) right tests writes (startSet packet) schedule .1)
 
-  by-ending : Ending (startSpot book) (mainOf book) (startSet packet) schedule → Stops book packet schedule (ran book packet schedule words area)
+  by-ending : Ending (startSpot book) (mainOf book) (startSet packet) schedule
+      → Stops book packet schedule (ran book packet schedule words area)
   unfolding start given finish
   by-ending (enough h e n) = finishes h (ran-stopped ∙ rw (e, n))
   by-ending (short h e r n) =
@@ -56,7 +59,8 @@ module _ (book packet schedule : List ℕ) (words area : ℕ) (admitted : Admitt
 -- a finished run leaves the result buffer as the evaluator does
 module _ (book packet schedule result : List ℕ) (area : ℕ) (admitted : Admitted book packet)
     (fit : mostPackets * fieldsOf book ≤ length result) (wide : areaWords ≤ area) (right : Right (mainOf book))
-    (tests : Sub (tested (mainOf book)) (allFields (fieldsOf book))) (writes : Sub (written (mainOf book)) (allFields (fieldsOf book))) where
+    (tests : Sub (tested (mainOf book)) (allFields (fieldsOf book)))
+    (writes : Sub (written (mainOf book)) (allFields (fieldsOf book))) where
   by-enough : Ending (startSpot book) (mainOf book) (startSet packet) schedule → stepsOf book packet ≤ length schedule
       → ranResult book packet schedule result area ≡ evaluatedResult book packet result
   unfolding ranResult evaluatedResult start given finish

@@ -9,7 +9,8 @@ use lib.ListN.{length, length-append, length-map}
 use Rattle.rules.specs.Packets.{Packets}
 use Rattle.rules.specs.Parts.{Part}
 use Rattle.rules.specs.Working.{out, steps, width}
-use Rattle.rules.specs.States.{Spot, Join, Tree, placed, done, waiting, negated, both, place, finish, leave, next, ready, move, run, counted, made}
+use Rattle.rules.specs.States.{Spot, Join, Tree, placed, done, waiting, negated, both, place, finish, leave, next}
+use Rattle.rules.specs.States.{ready, move, run, counted, made}
 use Rattle.rules.proofs.Lists.{All, all-at, all-or}
 use Rattle.rules.proofs.Measures.{final, rest, peak, held, broad}
 use Rattle.rules.proofs.Bounds.{handed}

@@ -250,7 +250,8 @@ module _ (x y : Packet) (s t : Packets) (h : Ascending (x ∷ s)) (k : Ascending
   all-in l i b (inl e) = cast∈ b x t e l
   all-in l i b (inr m) =
       ⊎-elim
-      (λ (e : b ≡ y). absurd (before-not-after x y (subst (λ (c : Packet). Before x c) e (after-out x b s (h .0) m)) (after-out y x t (k .0) l)))
+      (λ (e : b ≡ y).
+      absurd (before-not-after x y (subst (λ (c : Packet). Before x c) e (after-out x b s (h .0) m)) (after-out y x t (k .0) l)))
       (λ (n : b ∈ t). n) (i b (inr m))
 
 pub unique : (s t : Packets) → Ascending s → Ascending t → ((b : Packet) → (b ∈ s) ↔ (b ∈ t)) → s ≡ t
@@ -290,7 +291,8 @@ union-comm s t h k =
 
 pub union-assoc : (r s t : Packets) → Ascending r → union (union r s) t ≡ union r (union s t)
 union-assoc r s t h =
-    unique (union (union r s) t) (union r (union s t)) (union-ascending (union r s) t (union-ascending r s h)) (union-ascending r (union s t) h)
+    unique (union (union r s) t) (union r (union s t))
+    (union-ascending (union r s) t (union-ascending r s h)) (union-ascending r (union s t) h)
     (λ b. (to b, from b))
   where
     to : (b : Packet) → b ∈ union (union r s) t → b ∈ union r (union s t)

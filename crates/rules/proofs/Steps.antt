@@ -6,7 +6,8 @@ use mathlib.Core.List.{List, [], _∷_}
 use Rattle.rules.specs.Packets.{Packets, without, keep, lacks}
 use Rattle.rules.specs.Parts.{Part, Id, Drop, Test, Set, Not, Sum, Seq, Beside, Table, Open, size}
 use Rattle.rules.specs.Working.{each, out, steps, room, own, width}
-use Rattle.rules.specs.States.{Spot, on, moved, losing, Join, join, Tree, placed, done, waiting, negated, both, place, enter, finish, leave, next}
+use Rattle.rules.specs.States.{Spot, on, moved, losing, Join, join, Tree, placed, done, waiting, negated, both}
+use Rattle.rules.specs.States.{place, enter, finish, leave, next}
 use Rattle.rules.proofs.Lists.{All, none, also, all-append, all-map}
 use Rattle.rules.proofs.Sets.{keep-length}
 use Rattle.rules.proofs.Measures.{final, extra, rest, peak, broad}

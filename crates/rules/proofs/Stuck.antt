@@ -8,7 +8,9 @@ use Rattle.rules.specs.Masks.{less}
 use Rattle.rules.specs.Packets.{Packets, without}
 use Rattle.rules.specs.Parts.{Part, Id, Drop, Test, Set, Not, Sum, Seq, Beside, Table, Open, size}
 use Rattle.rules.specs.Typing.{tested, written, Right}
-use Rattle.rules.specs.States.{Spot, on, moved, losing, Join, entered, split, paired, Tree, placed, done, waiting, negated, both, place, enter, finish, leave, next, ready, move, run, used, lacking, stuckSteps, stuckIn}
+use Rattle.rules.specs.States.{Spot, on, moved, losing, Join, entered, split, paired, Tree, placed, done, waiting}
+use Rattle.rules.specs.States.{negated, both, place, enter, finish, leave, next, ready, move, run, used, lacking}
+use Rattle.rules.specs.States.{stuckSteps, stuckIn}
 use Rattle.rules.proofs.Lists.{All, none, also, all-append, all-map, all-or}
 use Rattle.rules.proofs.MaskLaws.{Sub, has-zero, sub-or-l, sub-or-r, less-in}
 use Rattle.rules.proofs.MaskExt.{sub-within}
@@ -59,11 +61,19 @@ Has h p t = (r : Part) × Later p r × Stands h r t
 module _ {h : ℕ} (p q : Part) where
   either-left : Right p → Sub (bitOr (tested p) (tested q)) h → Sub (bitOr (written p) (written q)) h → Holds h p
   either-left r t m =
-      record { right = r; tests = λ f k. t f (sub-or-l (tested p) (tested q) f k); writes = λ f k. m f (sub-or-l (written p) (written q) f k) }
+      record {
+        right = r;
+        tests = λ f k. t f (sub-or-l (tested p) (tested q) f k);
+        writes = λ f k. m f (sub-or-l (written p) (written q) f k);
+      }
 
   either-right : Right q → Sub (bitOr (tested p) (tested q)) h → Sub (bitOr (written p) (written q)) h → Holds h q
   either-right r t m =
-      record { right = r; tests = λ f k. t f (sub-or-r (tested p) (tested q) f k); writes = λ f k. m f (sub-or-r (written p) (written q) f k) }
+      record {
+        right = r;
+        tests = λ f k. t f (sub-or-r (tested p) (tested q) f k);
+        writes = λ f k. m f (sub-or-r (written p) (written q) f k);
+      }
 
 module _ {h : ℕ} {p q : Part} where
   sum-left : Holds h (Sum p q) → Holds h p

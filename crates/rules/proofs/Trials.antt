@@ -9,10 +9,15 @@ use Rattle.rules.specs.Packets.{padded, passes, put, mix, orderOf, inser
 use Rattle.rules.specs.Parts.{write, parts, deep, namesOpen}
 use Rattle.rules.specs.Typing.{tested, written, rightMasks, fitMasks, wrongs}
 use Rattle.rules.specs.Books.{entries, bytesOf, masksFit}
-use Rattle.rules.specs.Reading.{byteIf, stands, operandFits, readOperands, readPart, readBody, bodyStart, readEntry, readEntries, masksRight, after, built, partAt, bodyAt, useAt, mainOf, tablesFrom, policyOf, wrongBody, misfit, wrongsIn, misfitsIn, typingFaults, sizesOf, verdict}
+use Rattle.rules.specs.Reading.{byteIf, stands, operandFits, readOperands, readPart, readBody, bodyStart}
+use Rattle.rules.specs.Reading.{readEntry, readEntries, masksRight, after, built, partAt, bodyAt, useAt, mainOf}
+use Rattle.rules.specs.Reading.{tablesFrom, policyOf, wrongBody, misfit, wrongsIn, misfitsIn, typingFaults}
+use Rattle.rules.specs.Reading.{sizesOf, verdict}
 use Rattle.rules.specs.Working.{each, out, steps, room, own, widest, width}
-use Rattle.rules.specs.States.{join, place, enter, finish, leave, next, live, move, run, counted, made, used, lacking, stuckSteps, stuckIn}
-use Rattle.rules.specs.Answers.{Says, refusal, packets, finished, running, refusalSays, evaluatedSays, ranSays, given, outcome, evaluated, overwritten, evaluatedResult, start, ran, areaWords}
+use Rattle.rules.specs.States.{join, place, enter, finish, leave, next, live, move, run, counted, made, used}
+use Rattle.rules.specs.States.{lacking, stuckSteps, stuckIn}
+use Rattle.rules.specs.Answers.{Says, refusal, packets, finished, running, refusalSays, evaluatedSays, ranSays}
+use Rattle.rules.specs.Answers.{given, outcome, evaluated, overwritten, evaluatedResult, start, ran, areaWords}
 
 -- "k = 2, ... main masks R empty and W all fields", no tables: the book with this main body
 abbrev pub bookOf : List ℕ → List ℕ

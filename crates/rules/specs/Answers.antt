@@ -6,7 +6,9 @@ use mathlib.Core.List.{List, [], _∷_, _++_}
 use lib.Dec.{leb, eqb}
 use lib.ListN.{length, drop, replicate}
 use Rattle.rules.specs.declared.Refusal.{Refusal}
-use Rattle.rules.specs.declared.Refusal.the-variants.{BookLength, Counts, Lengths, EntryMasks, Form, Limits, Typing, PacketLength, Unpopulated, TooWide, Positions, BufferLength, Stuck, Input}
+use Rattle.rules.specs.declared.Refusal.the-variants.{BookLength, Counts, Lengths, EntryMasks, Form, Limits}
+use Rattle.rules.specs.declared.Refusal.the-variants.{Typing, PacketLength, Unpopulated, TooWide, Positions}
+use Rattle.rules.specs.declared.Refusal.the-variants.{BufferLength, Stuck, Input}
 use Rattle.rules.specs.declared.Verdict.{Verdict}
 use Rattle.rules.specs.declared.Verdict.the-variants.{Accepted, Refused}
 use Rattle.rules.specs.declared.Outcome.{Outcome}

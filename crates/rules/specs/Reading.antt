@@ -17,7 +17,8 @@ use Rattle.rules.specs.Masks.{inFields}
 use Rattle.rules.specs.Codes.{operandsOf, partsOf}
 use Rattle.rules.specs.Parts.{Part, Id, Drop, Test, Set, Not, Sum, Seq, Beside, parts, deep}
 use Rattle.rules.specs.Typing.{fits, wrongs}
-use Rattle.rules.specs.Books.{mostFields, mostTables, mostBytes, mostDepth, mostParts, mostBeside, Entry, Policy, entries, bytesOf, firstBody, useOf, noUse, masksFit, Scope, scopeOf}
+use Rattle.rules.specs.Books.{mostFields, mostTables, mostBytes, mostDepth, mostParts, mostBeside, Entry, Policy}
+use Rattle.rules.specs.Books.{entries, bytesOf, firstBody, useOf, noUse, masksFit, Scope, scopeOf}
 
 -- ---- the form of a body (5): "each read left to right, the first byte that cannot stand there"
 

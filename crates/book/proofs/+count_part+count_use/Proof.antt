@@ -3,7 +3,8 @@ use native.Mathlib.Omega.{arith}
 use lib.ListN.{getD}
 use Rattle.book.proofs.PlaceLaws.{after-zero, after-end, operands-few}
 use Rattle.book.proofs.CodeLaws.{part-zero, part-end}
-use Rattle.book.proofs.CountLaws.{count-none, count-id, count-table, count-leaf, count-few, count-left-over, count-one, count-right-over, count-both}
+use Rattle.book.proofs.CountLaws.{count-none, count-id, count-table, count-leaf, count-few, count-left-over}
+use Rattle.book.proofs.CountLaws.{count-one, count-right-over, count-both}
 use Rattle.book.proofs.CountLaws.{use-none, use-open, use-over, use-fits}
 use borrow.Author.Needs.{needs}
 use Prim.Native.Nat.{ℕ, _+_, _*_}

@@ -9,7 +9,9 @@ use Rattle.evaluator.proofs.names_open.Tie as tie
 returns : tie.Need-returns
 returns c =
     let s = c .before .before in
-    sym (all-closed (s .before .args .book .now) (s .before .pre) (λ i. s .shared-slice-known .given i .fits) (c .before .all-populated .ensures (c .if1 .taken)))
+    sym
+    (all-closed (s .before .args .book .now) (s .before .pre) (λ i. s .shared-slice-known .given i .fits)
+    (c .before .all-populated .ensures (c .if1 .taken)))
 
 returns-2 : tie.Need-returns-2
 returns-2 c = sym (open-is _ _ (c .before .body-start .ensures .0) (c .look-part .ensures))

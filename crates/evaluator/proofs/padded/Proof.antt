@@ -27,5 +27,8 @@ padded-spec =
     (λ c. search needs)
     (λ c. search needs)
     (λ c. search needs)
-    (λ c. (search needs, padded-next _ _ _ (c .before .before .before .pre) (c .before .loop-test .taken) (c .before .before .loop .inv .1)))
+    (λ c. (
+      search needs,
+      padded-next _ _ _ (c .before .before .before .pre) (c .before .loop-test .taken) (c .before .before .loop .inv .1),
+    ))
     (λ c. padded-end _ _ _ (c .loop-test .left) (c .before .loop .inv .0) (c .before .loop .inv .1)))
