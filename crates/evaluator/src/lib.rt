@@ -85,7 +85,7 @@ fn test_at(book: &[u8], at: usize, v: &mut [u16; 128], n: usize) -> Worked
 {
     let f = book::byte_at(book, at + 1) as usize;
     let x = number_at(book, at + 2);
-    let some = rows::keep_in(v, n, f, x);
+    let some = sets::keep_in(v, n, f, x);
     leaf(some, 1, at + 4)
 }
 
@@ -95,7 +95,7 @@ fn set_at(book: &[u8], at: usize, v: &mut [u16; 128], n: usize) -> Worked
 {
     let f = book::byte_at(book, at + 1) as usize;
     let x = number_at(book, at + 2);
-    let changed = rows::set_in(v, n, f, x);
+    let changed = sets::set_in(v, n, f, x);
     leaf(changed, 1, at + 4)
 }
 
@@ -104,7 +104,7 @@ fn not_given(v: &mut [u16; 128], n: usize, x: &[u16; 128], m: usize) -> usize
     requires { ⌜ Packed (now v) n × Packed (now x) m ⌝ }
     ensures { λ r. ⌜ Held (now (v .exit)) r (keep (lacks (chunks m (now (x .entry)))) (chunks n (now (v .entry)))) ⌝ }
 {
-    rows::difference_in(v, n, x, m)
+    sets::difference_in(v, n, x, m)
 }
 
 // The packets of v that a did not give, which are in x.
@@ -243,7 +243,7 @@ fn sum_at(
     }
     let left = a.count;
     let right = b.count;
-    let count = rows::union_in(v, left, &x, right);
+    let count = sets::union_in(v, left, &x, right);
     joined(count, a, b)
 }
 
@@ -305,7 +305,7 @@ fn one_packet(
     }
     let left = a.count;
     let right = b.count;
-    let count = rows::pairs_into(out, &x, left, &y, right, wq);
+    let count = sets::pairs_into(out, &x, left, &y, right, wq);
     joined(count, a, b)
 }
 
@@ -341,7 +341,7 @@ fn walk_packets(
     }
     let left = a.count;
     let right = b.count;
-    let count = rows::union_in(out, left, &rest, right);
+    let count = sets::union_in(out, left, &rest, right);
     joined(count, a, b)
 }
 

@@ -9,7 +9,7 @@ use lib.Dec.{leb}
 use lib.ListN.{length}
 use Rattle.rules.specs.Packets.{Packets, Ascending, insert}
 use Rattle.rows.specs.Chunks.{chunks, Held, Fits}
-use Rattle.rows.specs.Inserts.{Inserted}
+use Rattle.sets.specs.Inserts.{Inserted}
 use Rattle.rows.proofs.Chunks.{length-chunks}
 use Rattle.rows.proofs.Fillings.{fits-few, fits-many}
 use Rattle.packets.specs.declared.PacketSet.{PacketSet}

@@ -86,7 +86,7 @@ pub fn test(s: PacketSet, f: usize, v: u16) -> PacketSet
 {
     let mut w = s.values;
     let n = s.count;
-    let k = rows::keep_in(&mut w, n, f, v);
+    let k = sets::keep_in(&mut w, n, f, v);
     PacketSet {
         values: w,
         count: k,
@@ -101,7 +101,7 @@ pub fn insert(s: PacketSet, p: [u16; 8]) -> Made
 {
     let mut w = s.values;
     let n = s.count;
-    let more = rows::insert_in(&mut w, n, p);
+    let more = sets::insert_in(&mut w, n, p);
     if 16 < more {
         let e = empty(s.mask);
         return Made {
@@ -124,7 +124,7 @@ pub fn set_field(s: PacketSet, f: usize, v: u16) -> PacketSet
 {
     let mut w = s.values;
     let n = s.count;
-    let k = rows::set_in(&mut w, n, f, v);
+    let k = sets::set_in(&mut w, n, f, v);
     PacketSet {
         values: w,
         count: k,
@@ -141,7 +141,7 @@ pub fn union(a: PacketSet, b: PacketSet) -> Made
     let n = a.count;
     let y = b.values;
     let m = b.count;
-    let k = rows::union_in(&mut w, n, &y, m);
+    let k = sets::union_in(&mut w, n, &y, m);
     made_of(w, k, a.mask)
 }
 
@@ -154,7 +154,7 @@ pub fn difference(a: PacketSet, b: PacketSet) -> PacketSet
     let n = a.count;
     let y = b.values;
     let m = b.count;
-    let k = rows::difference_in(&mut w, n, &y, m);
+    let k = sets::difference_in(&mut w, n, &y, m);
     PacketSet {
         values: w,
         count: k,
@@ -174,7 +174,7 @@ pub fn without(s: PacketSet, w: u8) -> PacketSet
     let mut k = 0;
     while j < n {
         let p = rows::bare(w, rows::row(&x, j));
-        k = rows::insert_in(&mut v, k, p);
+        k = sets::insert_in(&mut v, k, p);
         j += 1;
     }
     PacketSet {
@@ -194,7 +194,7 @@ pub fn pairs(a: PacketSet, b: PacketSet, w: u8, mask: u8) -> Made
     let y = b.values;
     let m = b.count;
     let mut v = [0u16; 128];
-    let k = rows::pairs_into(&mut v, &x, n, &y, m, w);
+    let k = sets::pairs_into(&mut v, &x, n, &y, m, w);
     made_of(v, k, mask)
 }
 

@@ -1,14 +1,9 @@
 -- The laws of arrays of packets that the proofs of the functions cite, and those that the layers above use.
 pub mod Chunks
 pub mod Fillings
+pub mod Clearing
+pub mod Mixing
 pub mod Comparing
-pub mod Inserting
-pub mod Ascents
-pub mod Merging
-pub mod Sliding
-pub mod Sifting
-pub mod Pairing
 pub mod Lending
 pub mod Emitting
 pub mod Words
-pub mod Writing

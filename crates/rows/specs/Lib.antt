@@ -1,6 +1,4 @@
 -- What the contracts on arrays of packets say: the packets of an array, and what is done to it.
 pub mod Chunks
 pub mod Arrays
-pub mod Inserts
-pub mod Merges
 pub mod Areas

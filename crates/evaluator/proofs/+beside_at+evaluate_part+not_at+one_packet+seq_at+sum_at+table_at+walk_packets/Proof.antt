@@ -7,7 +7,7 @@ use lib.ListN.{getD}
 use Rattle.rules.specs.Parts.{parts}
 use Rattle.rows.specs.Chunks.{rowAt}
 use Rattle.rows.proofs.Fillings.{zeros-held}
-use Rattle.rows.proofs.Sliding.{cleared-packed}
+use Rattle.rows.proofs.Clearing.{cleared-packed}
 use Rattle.evaluator.specs.Work.{namedIn, partIn, notFrom, sumFrom, seqFrom, besideAt}
 use Rattle.evaluator.proofs.Decoder.{stands-zero, stands-end, stands-drop, stands-test, stands-set, stands-table, stands-not}
 use Rattle.evaluator.proofs.Decoder.{stands-sum, stands-seq, stands-beside, stands-id, table-used, table-none}
@@ -56,8 +56,8 @@ use Rattle.evaluator.proofs.set_at.Reads as set-at-reads
 use Rattle.evaluator.proofs.table_of.Reads as table-of-reads
 use Rattle.evaluator.proofs.test_at.Reads as test-at-reads
 use Rattle.rows.proofs.clear_rows.Reads as clear-rows-reads
-use Rattle.rows.proofs.pairs_into.Reads as pairs-into-reads
-use Rattle.rows.proofs.union_in.Reads as union-in-reads
+use Rattle.sets.proofs.pairs_into.Reads as pairs-into-reads
+use Rattle.sets.proofs.union_in.Reads as union-in-reads
 use Rattle.evaluator.proofs.+beside_at+evaluate_part+not_at+one_packet+seq_at+sum_at+table_at+walk_packets.{
   statement,
 }

@@ -1,6 +1,6 @@
 -- `drop_of` meets its contract.
 use borrow.Author.Needs.{needs}
-use Rattle.rows.proofs.Sliding.{cleared-packed}
+use Rattle.rows.proofs.Clearing.{cleared-packed}
 use Rattle.evaluator.proofs.WorkLaws.{did-drop}
 use Rattle.evaluator.proofs.drop_of.Statement.{statement}
 use Rattle.evaluator.proofs.drop_of.Tie as tie

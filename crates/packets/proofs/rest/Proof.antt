@@ -7,7 +7,7 @@ use Rattle.rows.specs.Chunks.{chunks}
 use Rattle.packets.specs.Rows.{rows}
 use Rattle.rows.proofs.Chunks.{rows-at, rows-done}
 use Rattle.rows.proofs.Fillings.{zeros-held, Filling, filling-start, filling-next, filling-end}
-use Rattle.rows.proofs.Ascents.{ascending-drop}
+use Rattle.sets.proofs.Ascents.{ascending-drop}
 use Rattle.packets.proofs.Sets.{held-is}
 use borrow.Author.Needs.{needs}
 use Rattle.packets.proofs.rest.Statement.{statement}

@@ -7,7 +7,7 @@ use Rattle.rules.specs.Masks.{less}
 use Rattle.rules.specs.Packets.{without, gathered}
 use Rattle.rows.specs.Chunks.{chunks}
 use Rattle.rows.proofs.Fillings.{zeros-held}
-use Rattle.rows.proofs.Inserting.{Gathering, gathering-start, gathering-end, gather-next, gather-end}
+use Rattle.sets.proofs.Inserting.{Gathering, gathering-start, gathering-end, gather-next, gather-end}
 use Rattle.packets.proofs.Sets.{held-is}
 use borrow.Author.Needs.{needs}
 use Rattle.packets.proofs.without.Statement.{statement}

@@ -1,6 +1,6 @@
 -- Zeros for the fields of the mask.
 use mathlib.Core.Path.{_∙_}
-use Rattle.rows.proofs.Pairing.{mix-blank}
+use Rattle.rows.proofs.Mixing.{mix-blank}
 use borrow.Author.Needs.{needs}
 use Rattle.rows.proofs.bare.Statement.{statement}
 use Rattle.rows.proofs.bare.Tie as tie

@@ -5,7 +5,7 @@ use mathlib.Core.List.{List, _++_}
 use native.Mathlib.Omega.{arith}
 use lib.ListN.{length, take, drop, set, replicate}
 use Rattle.rows.specs.Arrays.{cleared}
-use Rattle.rows.proofs.Sliding.{cleared-none, cleared-next, length-cleared}
+use Rattle.rows.proofs.Clearing.{cleared-none, cleared-next, length-cleared}
 use borrow.Author.Needs.{needs}
 use Rattle.rows.proofs.clear_rows.Statement.{statement}
 use Rattle.rows.proofs.clear_rows.Tie as tie

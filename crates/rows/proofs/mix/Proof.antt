@@ -1,6 +1,6 @@
 -- Field by field.
 use mathlib.Core.Path.{sym, _∙_}
-use Rattle.rows.proofs.Pairing.{eight-eq, mix-eight}
+use Rattle.rows.proofs.Mixing.{eight-eq, mix-eight}
 use borrow.Author.Needs.{needs}
 use Rattle.rows.proofs.mix.Statement.{statement}
 use Rattle.rows.proofs.mix.Tie as tie

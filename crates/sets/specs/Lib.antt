@@ -1,0 +1,3 @@
+-- What the helpers of sets say.
+pub mod Inserts
+pub mod Merges
