@@ -1,16 +1,15 @@
 -- The zeros after the last packet of an array: packets cleared word by word, and what is left.
 use Prim.Native.Nat.{ℕ, zero, suc, _+_, _*_, _-_, _≤_, _<_}
 use mathlib.Core.Path.{_≡_, refl, sym, ap, _∙_}
-use mathlib.Core.Bool.{Bool, true, false}
-use mathlib.Core.List.{List, [], _∷_, _++_, append-nil, append-assoc}
+use mathlib.Core.List.{List, [], _∷_, _++_, append-assoc}
 use native.Mathlib.Omega.{arith}
 use lib.ListN.{length, take, drop, getD, set, replicate, length-append, length-take, length-drop, length-replicate}
 use lib.ListN.{take-append-drop, drop-of-length-le, replicate-append-replicate}
-use lib.Seq.{append-snoc, drop-cons, drop-drop, drop-at, length-take-le, set-at}
-use Rattle.rules.specs.Packets.{Packet, Packets, Ascending, keep}
-use Rattle.rows.specs.Chunks.{chunks, rowAt, Packed, Held}
-use Rattle.rows.specs.Arrays.{putRow, cleared}
-use Rattle.rows.proofs.Chunks.{length-row, rows-at, rows-done, length-put, put-rows, put-rest, chunks-append, chunks-front}
+use lib.Seq.{drop-cons, drop-at, length-take-le, set-at}
+use Rattle.rules.specs.Packets.{Packets, Ascending}
+use Rattle.rows.specs.Chunks.{chunks, Packed, Held}
+use Rattle.rows.specs.Arrays.{cleared}
+use Rattle.rows.proofs.Chunks.{chunks-append, chunks-front}
 
 replicate-more : (n : ℕ) (l : List ℕ) → replicate n 0 ++ 0 ∷ l ≡ replicate (suc n) 0 ++ l
 replicate-more zero l = refl

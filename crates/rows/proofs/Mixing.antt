@@ -1,16 +1,13 @@
 -- Packets mixed field by field.
-use Prim.Native.Nat.{ℕ, _+_, _≤_, _<_}
-use mathlib.Core.Path.{_≡_, refl, sym, ap, _∙_}
+use Prim.Native.Nat.{ℕ}
+use mathlib.Core.Path.{_≡_, sym, ap, _∙_}
 use mathlib.Core.Bool.{cond}
-use mathlib.Core.List.{List, [], _∷_, map}
-use native.Mathlib.Omega.{arith}
-use lib.ListN.{length, drop, getD, replicate}
+use mathlib.Core.List.{[], _∷_}
+use lib.ListN.{length, getD}
 use Rattle.rules.specs.Masks.{has}
-use Rattle.rules.specs.Packets.{Packet, Packets, mix, without, union, pairsInto}
-use Rattle.rules.proofs.Sets.{length-pairsInto-le}
-use Rattle.rows.specs.Chunks.{chunks, rowAt, Packed, Held}
+use Rattle.rules.specs.Packets.{Packet, mix, without}
 use Rattle.rows.specs.Arrays.{blank}
-use Rattle.rows.proofs.Chunks.{eight, rows-at, rows-done}
+use Rattle.rows.proofs.Chunks.{eight}
 
 pub eight-eq : {a0 a1 a2 a3 a4 a5 a6 a7 b0 b1 b2 b3 b4 b5 b6 b7 : ℕ}
     → a0 ≡ b0 → a1 ≡ b1 → a2 ≡ b2 → a3 ≡ b3 → a4 ≡ b4 → a5 ≡ b5 → a6 ≡ b6 → a7 ≡ b7

@@ -1,17 +1,14 @@
 -- A loop over all pairings of two sets.
 use Prim.Native.Nat.{ℕ, _+_, _≤_, _<_}
-use mathlib.Core.Path.{_≡_, refl, sym, ap, _∙_}
-use mathlib.Core.Bool.{cond}
-use mathlib.Core.List.{List, [], _∷_, map}
+use mathlib.Core.Path.{_≡_, refl, ap, _∙_}
+use mathlib.Core.List.{List, [], map}
 use native.Mathlib.Omega.{arith}
-use lib.ListN.{length, drop, getD, replicate}
-use Rattle.rules.specs.Masks.{has}
-use Rattle.rules.specs.Packets.{Packet, Packets, mix, without, union, pairsInto}
+use lib.ListN.{length, drop}
+use Rattle.rules.specs.Packets.{Packet, Packets, mix, union, pairsInto}
 use Rattle.rules.proofs.Sets.{length-pairsInto-le}
 use Rattle.rows.specs.Chunks.{chunks, rowAt, Packed, Held}
-use Rattle.rows.specs.Arrays.{blank}
 use Rattle.sets.specs.Inserts.{Inserted, Joined}
-use Rattle.rows.proofs.Chunks.{eight, rows-at, rows-done}
+use Rattle.rows.proofs.Chunks.{rows-at, rows-done}
 use Rattle.sets.proofs.Inserting.{Gathering, gathering-count, gather-at, gather-end}
 
 -- ---- one packet paired with the first m of y

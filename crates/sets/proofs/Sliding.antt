@@ -1,16 +1,15 @@
 -- A loop that moves packets of an array to the front, past those that fall away.
-use Prim.Native.Nat.{ℕ, zero, suc, _+_, _*_, _-_, _≤_, _<_}
-use mathlib.Core.Path.{_≡_, refl, sym, ap, _∙_}
+use Prim.Native.Nat.{ℕ, _+_, _*_, _-_, _≤_, _<_}
+use mathlib.Core.Path.{_≡_, refl, ap, _∙_}
 use mathlib.Core.Bool.{Bool, true, false}
-use mathlib.Core.List.{List, [], _∷_, _++_, append-nil, append-assoc}
+use mathlib.Core.List.{List, [], _∷_, _++_, append-nil}
 use native.Mathlib.Omega.{arith}
-use lib.ListN.{length, take, drop, getD, set, replicate, length-append, length-take, length-drop, length-replicate}
-use lib.ListN.{take-append-drop, drop-of-length-le, replicate-append-replicate}
-use lib.Seq.{append-snoc, drop-cons, drop-drop, drop-at, length-take-le, set-at}
+use lib.ListN.{length, take, drop}
+use lib.Seq.{append-snoc, drop-drop}
 use Rattle.rules.specs.Packets.{Packet, Packets, Ascending, keep}
 use Rattle.rows.specs.Chunks.{chunks, rowAt, Packed, Held}
 use Rattle.rows.specs.Arrays.{putRow, cleared}
-use Rattle.rows.proofs.Chunks.{length-row, rows-at, rows-done, length-put, put-rows, put-rest, chunks-append, chunks-front}
+use Rattle.rows.proofs.Chunks.{length-row, rows-at, rows-done, length-put, put-rows, put-rest}
 use Rattle.rows.proofs.Clearing.{trimmed}
 
 -- the first k packets of w, with those that are left, are the whole; from place j on w is still x
