@@ -17,17 +17,17 @@ use Rattle.rules.specs.Meaning.{Gives}
 use Rattle.rules.specs.Reading.{fieldsOf, mainOf}
 use Rattle.rules.specs.Working.{steps, room}
 use Rattle.rules.specs.Answers.{startSet, given, outcome, evaluatedResult, overwritten}
-use Rattle.rules.proofs.Decoding.{Bytes}
+use Rattle.rules.specs.Books.{Bytes}
+use Rattle.rules.specs.Promises.{packetsGiven, EvaluateAnswer}
 use Rattle.rules.proofs.Bounds.{given as width-given}
 use Rattle.rules.proofs.Padding.{as-long}
 use Rattle.rules.proofs.Answering.{given-was}
-use Rattle.rules.proofs.Demands.{packetsGiven, packets-exactly, packets-ascending, packets-determined}
-use Rattle.evaluator.specs.Work.{Answers}
+use Rattle.rules.proofs.Demands.{packets-exactly, packets-ascending, packets-determined}
 
 -- whatever two answers, with their buffers, meet the contract, they are the same
-pub unique : (book packet before : List ℕ) {after after′ : List ℕ} {r r′ : Evaluated} → Answers book packet before after r
-    → Answers book packet before after′ r′ → (r ≡ r′) × (after ≡ after′)
-unique book packet before a b = (a .0 ∙ sym (b .0), a .1 ∙ sym (b .1))
+pub unique : (book packet before : List ℕ) {after after′ : List ℕ} {r r′ : Evaluated} → EvaluateAnswer book packet before r after
+    → EvaluateAnswer book packet before r′ after′ → (r ≡ r′) × (after ≡ after′)
+unique book packet before a b = (a .is ∙ sym (b .is), a .out ∙ sym (b .out))
 
 -- what a given packet set says
 pub record Published (book packet before after : List ℕ) (o : Outcome) : Type 0 where
@@ -58,10 +58,12 @@ length-values k (x ∷ s) h =
     let e : length (take k x) ≡ k = ap length (take-all k x (omega (arith, h x (inl refl)))) ∙ h x (inl refl) in
     simp (length-append, suc-mul) (omega (arith, e, length-values k s (λ b m. h b (inr m))))
 
-pub published : (book packet before after : List ℕ) (o : Outcome) → Bytes book → Answers book packet before after (Given o)
+pub published : (book packet before after : List ℕ) (o : Outcome) → Bytes book
+    → EvaluateAnswer book packet before (Given o) after
     → Published book packet before after o
 unfolding outcome given evaluatedResult overwritten
-published s p b a o small (e, f) =
+published s p b a o small answer =
+    let e = answer .is in
     let t = given-was s p (length b) o (sym e) in
     let g = t .0 in
     let same = t .2 in
@@ -71,7 +73,7 @@ published s p b a o small (e, f) =
     let c : o .count ≡ length r = ap (λ (x : Outcome). x .count) same ∙ sym (length-map (given s p) (take k)) in
     let n : length (valuesOf k r) ≡ o .count * k =
     length-values k r (λ x i. as-long (mainOf s) p x (exact x .0 i) ∙ g .words) ∙ ap (λ (y : ℕ). y * k) (sym c) in
-    let w : a ≡ valuesOf k r ++ drop (o .count * k) b = f ∙ rw (← e, ← n, values-map k (given s p)) in
+    let w : a ≡ valuesOf k r ++ drop (o .count * k) b = answer .out ∙ rw (← e, ← n, values-map k (given s p)) in
     record {
       fields = g .words;
       ascending = packets-ascending s p small g;

@@ -21,12 +21,13 @@ use Rattle.rules.specs.Books.{mostDepth}
 use Rattle.rules.specs.Reading.{fieldsOf, bodyStart, useAt, partAt, mainOf, sizesOf, verdict}
 use Rattle.rules.specs.Working.{out, steps, room, width}
 use Rattle.rules.specs.Answers.{startSet, given, outcome, evaluated, evaluatedResult, overwritten}
-use Rattle.rules.proofs.Answering.{Granted, not-given-keeps, evaluated-refused, evaluated-packet, evaluated-buffer}
-use Rattle.rules.proofs.Answering.{evaluated-open, evaluated-wide, evaluated-given}
+use Rattle.rules.specs.Promises.{Granted, EvaluateAnswer}
+use Rattle.rules.proofs.Answering.{not-given-keeps, evaluated-refused, evaluated-packet, evaluated-buffer}
+use Rattle.rules.proofs.Answering.{evaluated-open, evaluated-wide, evaluated-given, evaluate-answer}
 use Rattle.rules.proofs.AcceptedBooks.{accepted-sizes, accepted-fields, accepted-parts, accepted-deep}
 use Rattle.rows.specs.Chunks.{chunks, Held}
 use Rattle.rows.specs.Areas.{Emitted}
-use Rattle.evaluator.specs.Work.{namedIn, partIn, Fair, Did, Sees, Answers}
+use Rattle.evaluator.specs.Work.{namedIn, partIn, Fair, Did, Sees}
 use Rattle.evaluator.specs.declared.Worked.{Worked}
 use Rattle.evaluator.specs.declared.Looked.{Looked}
 use Rattle.rows.proofs.Fillings.{held-self, held-count, held-few}
@@ -45,8 +46,8 @@ fits-in : (k n v : ℕ) {l : ℕ} → v ≤ n * k → n ≤ mostPackets → 16 *
 fits-in k n v h few room = omega (arith, mul-le-mul-right k few)
 
 -- a refusal leaves the result buffer as it was
-not-given : (s p b : List ℕ) (why : Refusal) → evaluated s p (length b) ≡ NotGiven why → Answers s p b b (NotGiven why)
-not-given s p b why e = (sym e, sym (not-given-keeps s p b why e))
+not-given : (s p b : List ℕ) (why : Refusal) → evaluated s p (length b) ≡ NotGiven why → EvaluateAnswer s p b (NotGiven why) b
+not-given s p b why e = evaluate-answer (sym e) (sym (not-given-keeps s p b why e))
 
 -- the fields of an accepted book
 module _ (s : List ℕ) (z : Sizes) (v : verdict s ≡ Accepted z) where
@@ -58,15 +59,15 @@ module _ (s : List ℕ) (z : Sizes) (v : verdict s ≡ Accepted z) where
   fields-some = rw fields-are (accepted-fields s z v)
 
 module _ (s p b : List ℕ) where
-  pub refused : (why : Refusal) → Refused why ≡ verdict s → Answers s p b b (NotGiven why)
+  pub refused : (why : Refusal) → Refused why ≡ verdict s → EvaluateAnswer s p b (NotGiven why) b
   refused why e = not-given s p b why (evaluated-refused s p (length b) why (sym e))
 
   module _ (z : Sizes) (says : verdict s ≡ Accepted z) where
-    pub wrong-packet : (length p ≡ z .fields → ⊥) → Answers s p b b (NotGiven PacketLength)
+    pub wrong-packet : (length p ≡ z .fields → ⊥) → EvaluateAnswer s p b (NotGiven PacketLength) b
     wrong-packet h = not-given s p b PacketLength (evaluated-packet s p (length b) z says (λ q. h (q ∙ sym (fields-are s z says))))
 
     module _ (long : length p ≡ z .fields) where
-      pub wrong-buffer : length b < 16 * z .fields → Answers s p b b (NotGiven BufferLength)
+      pub wrong-buffer : length b < 16 * z .fields → EvaluateAnswer s p b (NotGiven BufferLength) b
       wrong-buffer h =
           not-given s p b BufferLength (evaluated-buffer s p (length b) z says (long ∙ fields-are s z says) (rw (fields-are s z says) at h))
 
@@ -74,11 +75,11 @@ module _ (s p b : List ℕ) where
         enough : mostPackets * fieldsOf s ≤ length b
         enough = rw (fields-are s z says) at space
 
-        pub unpopulated : namesOpen (mainOf s) ≡ true → Answers s p b b (NotGiven Unpopulated)
+        pub unpopulated : namesOpen (mainOf s) ≡ true → EvaluateAnswer s p b (NotGiven Unpopulated) b
         unpopulated e = not-given s p b Unpopulated (evaluated-open s p (length b) z says (long ∙ fields-are s z says) enough e)
 
         module _ (closed : namesOpen (mainOf s) ≡ false) {n : ℕ} {v : List ℕ} {w : Worked} (d : Did (mainOf s) (startSet p) n v w) where
-          pub too-wide-is : w .wide ≡ true → Answers s p b b (NotGiven TooWide)
+          pub too-wide-is : w .wide ≡ true → EvaluateAnswer s p b (NotGiven TooWide) b
           too-wide-is e =
               not-given s p b TooWide (evaluated-wide s p (length b) z says (long ∙ fields-are s z says) enough closed (d .over e))
 
@@ -95,7 +96,7 @@ module _ (s p b : List ℕ) where
           within e = evaluated-given s p (length b) (granted e) enough
 
           pub given-is : w .wide ≡ false → (f : Bool) (o : List ℕ) → Emitted f (valuesOf (z .fields) (chunks (w .count) v)) b o
-              → Answers s p b o (Given (outcomeOf w z))
+              → EvaluateAnswer s p b (Given (outcomeOf w z)) o
           unfolding evaluatedResult overwritten given outcome sizesOf
           given-is e f o m =
               let g = d .fine e in
@@ -103,10 +104,8 @@ module _ (s p b : List ℕ) where
               let few = values-few (z .fields) (chunks (w .count) v) in
               let c : length (chunks (w .count) v) ≤ mostPackets = held-few (held-self (g .held .packed)) in
               let t : f ≡ true = m .fits ∙ le-leb _ _ (fits-in (z .fields) _ _ few c space) in
-              let n : w .count ≡ length (out (mainOf s) (startSet p)) = held-count (g .held) in (
-                rw (within e, n, g .steps, g .room, y),
-                m .words ∙ rw (within e, t, fields-are s z says, g .held .same),
-              )
+              let n : w .count ≡ length (out (mainOf s) (startSet p)) = held-count (g .held) in
+              evaluate-answer (rw (within e, n, g .steps, g .room, y)) (m .words ∙ rw (within e, t, fields-are s z says, g .held .same))
 
 -- the main policy, where its body starts
 main-is : (s : List ℕ) (start : ℕ) → start ≡ bodyStart s 0 → partIn s true mostDepth start ≡ mainOf s

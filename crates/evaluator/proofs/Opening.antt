@@ -11,10 +11,9 @@ use borrow.Author.Tests.{eqb-true, eqb-false, ne-eqb}
 use Rattle.rules.specs.declared.Shape.{Shape}
 use Rattle.rules.specs.Codes.{shapeAt, partsOf}
 use Rattle.rules.specs.Parts.{Part, Id, Drop, Test, Set, Not, Sum, Seq, Beside, Table, Open, namesOpen}
-use Rattle.rules.specs.Books.{useOf, noUse, mostDepth, Scope, Fine}
+use Rattle.rules.specs.Books.{useOf, noUse, mostDepth, Scope, Fine, Bytes}
 use Rattle.rules.specs.Reading.{skip, after, built, partAt, bodyAt, useAt, lengthAt, readsAt, writesAt, bodyStart, mainOf}
 use Rattle.rules.proofs.ReadingLaws.{parts-small}
-use Rattle.rules.proofs.Decoding.{Bytes}
 use Rattle.rules.proofs.FineLaws.{OfUses}
 use Rattle.typing.proofs.Inside.{main-placed}
 use Rattle.evaluator.specs.Work.{Sees, IsAccepted, Populated}

@@ -12,8 +12,6 @@ use Rattle.rules.specs.declared.Sizes.{Sizes}
 use Rattle.rules.specs.declared.Verdict.the-variants.{Accepted}
 use Rattle.rules.specs.Reading.{lengthAt, tablesOf, verdict, partAt, useAt, after, numberAt}
 use Rattle.rules.specs.Working.{out, steps, room, width}
-use Rattle.rules.specs.declared.Evaluated.{Evaluated}
-use Rattle.rules.specs.Answers.{evaluated, evaluatedResult}
 use Rattle.rows.specs.Chunks.{Held}
 use Rattle.evaluator.specs.declared.Worked.{Worked}
 use Rattle.evaluator.specs.declared.Looked.{Looked}
@@ -99,7 +97,3 @@ IsAccepted s = (z : Sizes) × (verdict s ≡ Accepted z)
 
 abbrev pub Populated : List ℕ → Type 0
 Populated s = (x : ℕ) → 0 < x → x ≤ tablesOf s → lengthAt s x ≡ 0 → ⊥
-
--- the answer to a book and a packet, and the words of the result buffer before and after
-abbrev pub Answers : List ℕ → List ℕ → List ℕ → List ℕ → Evaluated → Type 0
-Answers book packet before after r = (r ≡ evaluated book packet (length before)) × (after ≡ evaluatedResult book packet before)

@@ -15,10 +15,11 @@ ghost use Rattle.rules.specs.Packets.{Packets, without, padded, keep, lacks};
 ghost use Rattle.rules.specs.Parts.{Part, Drop, Not, Seq, Beside, Table, namesOpen};
 ghost use Rattle.rules.specs.Reading.{numberAt, after, useAt, partAt, mainOf, verdict};
 ghost use Rattle.rules.specs.Working.{out};
-ghost use Rattle.rules.specs.Answers.{startSet, evaluated, evaluatedResult};
+ghost use Rattle.rules.specs.Answers.{startSet};
+ghost use Rattle.rules.specs.Promises.{EvaluateAnswer};
 ghost use Rattle.rows.specs.Chunks.{chunks, rowAt, Packed, Held, Fits};
 ghost use Rattle.evaluator.specs.Work.{namedIn, partIn, testAt, setAt, notFrom, sumFrom, seqFrom, besideAt};
-ghost use Rattle.evaluator.specs.Work.{afterTwo, Fair, Fine, Did, Small, Joins, Sees, IsAccepted, Populated, Answers, worked};
+ghost use Rattle.evaluator.specs.Work.{afterTwo, Fair, Fine, Did, Small, Joins, Sees, IsAccepted, Populated, worked};
 
 // What a part gives on the packets of a lent array: too wide, or how many they are then, its steps and its room, and the place after it.
 struct Worked {
@@ -519,7 +520,7 @@ fn start_in(packet: &[u16], v: &mut [u16; 128])
 // One packet through an accepted book: 8, 12, 9, 10 in this order, or the packets in the result.
 fn evaluate_accepted(book: &[u8], packet: &[u16], result: &mut [u16], z: Sizes) -> Evaluated
     requires { ⌜ verdict (now book) ≡ Accepted z ⌝ }
-    ensures { λ r. ⌜ Answers (now (book .entry)) (now (packet .entry)) (now (result .entry)) (now (result .exit)) r ⌝ }
+    ensures { λ r. ⌜ EvaluateAnswer (now (book .entry)) (now (packet .entry)) (now (result .entry)) r (now (result .exit)) ⌝ }
 {
     let k = z.fields;
     if packet.len() != k {
@@ -551,8 +552,7 @@ fn evaluate_accepted(book: &[u8], packet: &[u16], result: &mut [u16], z: Sizes) 
 
 // One packet through a book: why it is turned away, or the count, N, n, D and the room, and the packets in the result.
 pub fn evaluate(book: &[u8], packet: &[u16], result: &mut [u16]) -> Evaluated
-    ensures { λ r. ⌜ (r ≡ evaluated (now (book .entry)) (now (packet .entry)) (length (now (result .entry))))
-        × (now (result .exit) ≡ evaluatedResult (now (book .entry)) (now (packet .entry)) (now (result .entry))) ⌝ }
+    ensures { λ r. ⌜ EvaluateAnswer (now (book .entry)) (now (packet .entry)) (now (result .entry)) r (now (result .exit)) ⌝ }
 {
     let v = typing::accept(book);
     match v {

@@ -10,11 +10,11 @@ use Rattle.rules.specs.declared.Sizes.{Sizes}
 use Rattle.rules.specs.declared.Verdict.the-variants.{Accepted}
 use Rattle.rules.specs.Packets.{Packets}
 use Rattle.rules.specs.Parts.{Part, Id, Drop, Test, Set, Not, Sum, Seq, Beside, Table, Open, write, namesOpen}
-use Rattle.rules.specs.Books.{mostDepth, Entry, entries, bytesOf, Scope, scopeOf, noUse, Fine, OfBody, OfEach}
+use Rattle.rules.specs.Books.{mostDepth, Entry, entries, bytesOf, Scope, scopeOf, noUse, Fine, OfBody, OfEach, Bytes}
 use Rattle.rules.specs.Reading.{fieldsOf, tablesOf, bodyStart, partAt, bodyAt, useAt, mainOf, tablesFrom, policyOf, verdict}
 use Rattle.rules.specs.States.{stuckIn}
 use Rattle.rules.specs.Answers.{start, startSpot, startSet}
-use Rattle.rules.proofs.Decoding.{Bytes, reads}
+use Rattle.rules.proofs.Decoding.{reads}
 use Rattle.rules.proofs.Standing as R
 use Rattle.rules.proofs.Whole.{FineBody, tableAt, entries-read}
 use Rattle.rules.proofs.AcceptedBooks.{accepted-readable, accepted-length, accepted-fields, accepted-right, accepted-tested}

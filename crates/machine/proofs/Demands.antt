@@ -9,31 +9,29 @@ use Rattle.rules.specs.declared.Ran.the-variants.{NotRun}
 use Rattle.rules.specs.Packets.{mostPackets}
 use Rattle.rules.specs.Reading.{fieldsOf}
 use Rattle.rules.specs.Answers.{areaWords, evaluatedResult}
-use Rattle.rules.proofs.Decoding.{Bytes}
-use Rattle.rules.proofs.Answering.{Admitted}
-use Rattle.rules.proofs.Runs.{stepsOf, Stops}
+use Rattle.rules.specs.Books.{Bytes}
+use Rattle.rules.specs.Promises.{Admitted, stepsOf, Stops, RunAnswer}
 use Rattle.rules.proofs.Demands.{one-number, same-result, refused-run-keeps}
-use Rattle.machine.specs.Answered.{Answered}
 
 -- the answer and both buffers are determined
-pub unique : {book packet schedule result work : List ℕ} {r s : Ran} {o p v w : List ℕ} → Answered book packet schedule result work r o v
-    → Answered book packet schedule result work s p w → (r ≡ s) × (o ≡ p) × (v ≡ w)
-unique a b = (a .says ∙ sym (b .says), a .out ∙ sym (b .out), a .area ∙ sym (b .area))
+pub unique : {book packet schedule result work : List ℕ} {r s : Ran} {o p v w : List ℕ} → RunAnswer book packet schedule result work r o v
+    → RunAnswer book packet schedule result work s p w → (r ≡ s) × (o ≡ p) × (v ≡ w)
+unique a b = (a .is ∙ sym (b .is), a .out ∙ sym (b .out), a .work ∙ sym (b .work))
 
 -- demand 1: where the machine turns a call away, both buffers are as they were
 pub turned-away-keeps : {book packet schedule result work o v : List ℕ} (why : Refusal)
-    → Answered book packet schedule result work (NotRun why) o v → (o ≡ result) × (v ≡ work)
+    → RunAnswer book packet schedule result work (NotRun why) o v → (o ≡ result) × (v ≡ work)
 turned-away-keeps {book} {packet} {schedule} {result} {work} why a =
-    let k = refused-run-keeps book packet schedule result work why (sym (a .says)) in
-    (a .out ∙ k .0, a .area ∙ k .1)
+    let k = refused-run-keeps book packet schedule result work why (sym (a .is)) in
+    (a .out ∙ k .0, a .work ∙ k .1)
 
 -- demand 3: for an admitted book and packet, and buffers that are long enough
 module _ {book packet schedule result work o v : List ℕ} {r : Ran} (bytes : Bytes book) (admitted : Admitted book packet)
     (fit : mostPackets * fieldsOf book ≤ length result) (wide : areaWords ≤ length work)
-    (a : Answered book packet schedule result work r o v) where
+    (a : RunAnswer book packet schedule result work r o v) where
   -- the machine's answer: finished after exactly N steps, or running, each choice a step, with a step ready
   pub machine-stops : Stops book packet schedule r
-  machine-stops = rw (a .says) (one-number book packet bytes admitted schedule (length result) (length work) fit wide)
+  machine-stops = rw (a .is) (one-number book packet bytes admitted schedule (length result) (length work) fit wide)
 
   -- at least N choices leave demand 2's packets in the result
   pub machine-result : stepsOf book packet ≤ length schedule → o ≡ evaluatedResult book packet result

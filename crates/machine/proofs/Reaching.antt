@@ -10,11 +10,10 @@ use Rattle.rules.specs.Parts.{Part, Id, Drop, Test, Set, Not, Sum, Seq, Beside,
 use Rattle.rules.specs.Reading.{bodyStart, mainOf}
 use Rattle.rules.specs.Working.{room, width}
 use Rattle.rules.specs.States.{Spot, on, moved, losing, Join, entered, split, paired, join, Tree, placed, done, waiting, negated, both}
-use Rattle.rules.specs.States.{place, enter, finish, leave, next, live, run}
+use Rattle.rules.specs.States.{place, enter, finish, leave, next, live, run, held}
 use Rattle.rules.specs.Answers.{startSet, startSpot, start}
 use Rattle.rules.proofs.Lists.{All, none, also, all-append, all-map}
 use Rattle.rules.proofs.Sets.{union-ascending, gathered-ascending, keep-ascending, pairs-ascending}
-use Rattle.rules.proofs.Measures.{held}
 use Rattle.rules.proofs.Schedules.{run-keeps, held-width}
 use Rattle.rules.proofs.Rooms.{live-room}
 use Rattle.rules.proofs.Everywhere.{Inherited, Everywhere, run-everywhere}

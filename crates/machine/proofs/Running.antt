@@ -23,11 +23,12 @@ use Rattle.rules.specs.Working.{room, width}
 use Rattle.rules.specs.States.{finish, run, made}
 use Rattle.rules.specs.Answers.{startSet, start, outcome, elseNotGiven, evaluated, elseNotRun, stopped, ran, overwritten}
 use Rattle.rules.specs.Answers.{resultRun, ranResult, areaRun, ranArea}
-use Rattle.rules.proofs.Decoding.{Bytes}
+use Rattle.rules.specs.Books.{Bytes}
+use Rattle.rules.specs.Promises.{Granted, Admitted, RunAnswer}
 use Rattle.rules.proofs.AcceptedBooks.{accepted-sizes, accepted-fields}
-use Rattle.rules.proofs.Answering.{Granted, Admitted, given-was, ran-admitted}
+use Rattle.rules.proofs.Answering.{given-was, ran-admitted, run-answer}
 use Rattle.machine.specs.Shown.{Stands, Readable, Playable}
-use Rattle.machine.specs.Answered.{GivenRoom, Answered, stopOf, wordsOf}
+use Rattle.machine.specs.Answered.{GivenRoom, stopOf, wordsOf}
 use Rattle.machine.proofs.Reaching.{start-playable}
 use Rattle.machine.proofs.Admitting.{accepted-reads, accepted-stands, accepted-goes}
 
@@ -43,9 +44,9 @@ module _ (book packet schedule result work : List ℕ) where
   answer = ran book packet schedule (length result) (length work)
 
   -- a refusal leaves both buffers as they are
-  pub turned-away : (why : Refusal) → NotRun why ≡ answer → Answered book packet schedule result work (NotRun why) result work
+  pub turned-away : (why : Refusal) → NotRun why ≡ answer → RunAnswer book packet schedule result work (NotRun why) result work
   unfolding ranResult ranArea
-  turned-away why e = record { says = e; out = rw (← e) refl; area = rw (← e) refl }
+  turned-away why e = run-answer e (rw (← e) refl) (rw (← e) refl)
 
   pub refused-book : (why : Refusal) (v : Verdict) → v ≡ verdict book → v ≡ Refused why → NotRun why ≡ answer
   unfolding ran
@@ -135,15 +136,12 @@ module _ (book packet schedule result work : List ℕ) where
           -- the conducted run is the answer
           pub conducted : (r : Ran) (result′ work′ : List ℕ) → r ≡ stopOf book packet schedule
               → result′ ≡ resultRun r (wordsOf book packet schedule) result → work′ ≡ overwritten (replicate 21760 0) work
-              → Answered book packet schedule result work r result′ work′
+              → RunAnswer book packet schedule result work r result′ work′
           unfolding ranResult ranArea
           conducted r result′ work′ er eo ea =
               let s : r ≡ answer = er ∙ sym answer-is in
-              record {
-                says = s;
-                out = eo ∙ ap (λ (x : Ran). resultRun x (wordsOf book packet schedule) result) s;
-                area = ea ∙ stopped-area (finish (run (start book packet) schedule)) ∙ ap (λ (x : Ran). areaRun x work) (sym er ∙ s);
-              }
+              run-answer s (eo ∙ ap (λ (x : Ran). resultRun x (wordsOf book packet schedule) result) s)
+              (ea ∙ stopped-area (finish (run (start book packet) schedule)) ∙ ap (λ (x : Ran). areaRun x work) (sym er ∙ s))
             where
               stopped-area : (fs : List Packets)
                   → overwritten (replicate 21760 0) work ≡ areaRun

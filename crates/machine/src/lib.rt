@@ -21,7 +21,8 @@ ghost use Rattle.rules.specs.Working.{out};
 ghost use Rattle.rules.specs.States.{join};
 ghost use Rattle.rules.specs.declared.Evaluated.the-variants.{NotGiven};
 ghost use Rattle.rules.specs.declared.Ran.the-variants.{NotRun};
-ghost use Rattle.rules.specs.Answers.{start, resultRun, overwritten, evaluated, ran, ranResult, ranArea};
+ghost use Rattle.rules.specs.Answers.{start, resultRun, overwritten, evaluated, ran};
+ghost use Rattle.rules.specs.Promises.{RunAnswer};
 ghost use Rattle.packets.specs.Rows.{rows, Is, Whole};
 ghost use Rattle.rows.specs.Arrays.{eightAt, storedAt};
 ghost use Rattle.machine.specs.Area.{heads, slots, Now, turned, here, all, order, Wf, Holds};
@@ -32,7 +33,7 @@ ghost use Rattle.machine.specs.Shown.{Standing, StandingTwo, Entering, L
 ghost use Rattle.machine.specs.Shown.{Playable, Held, Advancing, Advanced, Played, Ended};
 ghost use Rattle.machine.specs.Made.{Puts, Entered, Settled, seqOf, notOf, sumOf, sidesOf};
 ghost use Rattle.machine.specs.Made.{nextOf, notLeft, joinedOf, bothLeft};
-ghost use Rattle.machine.specs.Answered.{GivenRoom, Answered, stopOf, wordsOf};
+ghost use Rattle.machine.specs.Answered.{GivenRoom, stopOf, wordsOf};
 
 // The eight words at b.
 fn read8(work: &[u16], b: usize) -> [u16; 8]
@@ -943,7 +944,7 @@ fn run_given(
     room: u64,
 ) -> Ran
     requires { ⌜ GivenRoom (now book) (now packet) room ⌝ }
-    ensures { λ r. ⌜ Answered (now (book .entry)) (now (packet .entry)) (now (schedule .entry)) (now (result .entry))
+    ensures { λ r. ⌜ RunAnswer (now (book .entry)) (now (packet .entry)) (now (schedule .entry)) (now (result .entry))
         (now (work .entry)) r (now (result .exit)) (now (work .exit)) ⌝ }
 {
     let k = packet.len();
@@ -999,12 +1000,8 @@ pub fn run(
     result: &mut [u16],
     work: &mut [u16],
 ) -> Ran
-    ensures { λ r. ⌜ (r ≡ ran (now (book .entry)) (now (packet .entry)) (now (schedule .entry))
-        (length (now (result .entry))) (length (now (work .entry))))
-        × (now (result .exit) ≡ ranResult (now (book .entry)) (now (packet .entry)) (now (schedule .entry))
-        (now (result .entry)) (length (now (work .entry))))
-        × (now (work .exit) ≡ ranArea (now (book .entry)) (now (packet .entry)) (now (schedule .entry))
-        (length (now (result .entry))) (now (work .entry))) ⌝ }
+    ensures { λ r. ⌜ RunAnswer (now (book .entry)) (now (packet .entry)) (now (schedule .entry)) (now (result .entry))
+        (now (work .entry)) r (now (result .exit)) (now (work .exit)) ⌝ }
 {
     let mut out = [0u16; 128];
     let e = evaluator::evaluate(book, packet, &mut out);

@@ -26,13 +26,13 @@ use Rattle.rules.specs.Working.{room, width}
 use Rattle.rules.specs.States.{finish, run, made, stuckIn}
 use Rattle.rules.specs.Answers.{mostPositions, areaWords, startSet, startSpot, given, start, elseNotRun, ranOf}
 use Rattle.rules.specs.Answers.{elseStuck, stopped, ran, ranResult, overwritten, finalOf}
+use Rattle.rules.specs.Books.{Bytes}
+use Rattle.rules.specs.Promises.{Admitted}
 use Rattle.rules.proofs.Lists.{All, none, also}
 use Rattle.rules.proofs.Sets.{map-in}
 use Rattle.rules.proofs.Padding.{as-long}
 use Rattle.rules.proofs.Bounds.{given as out-few}
-use Rattle.rules.proofs.Decoding.{Bytes}
 use Rattle.rules.proofs.Schedules.{Ending, enough, short, ending}
-use Rattle.rules.proofs.Answering.{Admitted}
 use Rattle.rules.proofs.Demands.{packets-exactly}
 use Rattle.printer.specs.Printing.{packetLines, refusedLine, ranLines}
 use Rattle.printer.specs.Building.{linesOf, runningLine, finishedLines, ranText}

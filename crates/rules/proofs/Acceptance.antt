@@ -17,10 +17,10 @@ use Rattle.rules.specs.declared.Sizes.{Sizes}
 use Rattle.rules.specs.declared.Verdict.{Verdict}
 use Rattle.rules.specs.declared.Verdict.the-variants.{Accepted}
 use Rattle.rules.specs.Parts.{parts, deep}
-use Rattle.rules.specs.Books.{mostFields, mostTables, mostBytes, mostParts, mostBeside, Policy, writeBook, WellFormed, Book}
+use Rattle.rules.specs.Books.{mostFields, mostTables, mostBytes, mostParts, mostBeside, Policy, writeBook, WellFormed, Book, Bytes}
 use Rattle.rules.specs.Reading.{fieldsOf, tablesOf, bodyStart, mainOf, policyOf, typingFaults, unless}
 use Rattle.rules.specs.Reading.{unlessWrong, unlessFault, sizesOf, verdict}
-use Rattle.rules.proofs.Decoding.{Bytes, and-was}
+use Rattle.rules.proofs.Decoding.{and-was}
 use Rattle.rules.proofs.Whole.{Readable, whole-read, whole-reads}
 use Rattle.rules.proofs.Faults.{faults}
 

@@ -5,13 +5,11 @@ use mathlib.Core.List.{List}
 use lib.ListN.{length}
 use Rattle.rules.specs.declared.Sizes.{Sizes}
 use Rattle.rules.specs.declared.Verdict.the-variants.{Accepted}
-use Rattle.rules.specs.Masks.{allFields}
+use Rattle.rules.specs.Masks.{allFields, Sub}
 use Rattle.rules.specs.Parts.{Formed, parts, deep}
 use Rattle.rules.specs.Typing.{Right, tested, written}
-use Rattle.rules.specs.Books.{mostFields, mostTables, mostBytes, mostParts, mostBeside, entries, Book}
+use Rattle.rules.specs.Books.{mostFields, mostTables, mostBytes, mostParts, mostBeside, entries, Book, Bytes}
 use Rattle.rules.specs.Reading.{fieldsOf, tablesOf, mainOf, policyOf, sizesOf, verdict}
-use Rattle.rules.proofs.MaskLaws.{Sub}
-use Rattle.rules.proofs.Decoding.{Bytes}
 use Rattle.rules.proofs.Whole.{Readable}
 use Rattle.rules.proofs.FieldsBelow.{FieldsBelow}
 use Rattle.rules.proofs.FineLaws.{main-formed, main-below, main-tested, main-written}

@@ -1,7 +1,7 @@
 -- When each answer of the evaluator and of a run is given, and that nothing lent changes where a call is turned away.
 use Prim.Native.Nat.{ℕ, _*_, _≤_, _<_}
 use native.Mathlib.Omega.{arith}
-use mathlib.Core.Path.{_≡_, refl, sym}
+use mathlib.Core.Path.{_≡_, refl, sym, ap}
 use mathlib.Core.Bool.{Bool, true, false, not}
 use mathlib.Core.List.{List}
 use lib.Dec.{leb, eqb}
@@ -15,6 +15,7 @@ use Rattle.rules.specs.declared.Verdict.the-variants.{Accepted, Refused}
 use Rattle.rules.specs.declared.Outcome.{Outcome}
 use Rattle.rules.specs.declared.Evaluated.{Evaluated}
 use Rattle.rules.specs.declared.Evaluated.the-variants.{Given, NotGiven}
+use Rattle.rules.specs.declared.Ran.{Ran}
 use Rattle.rules.specs.declared.Ran.the-variants.{NotRun}
 use Rattle.rules.specs.Packets.{mostPackets}
 use Rattle.rules.specs.Parts.{namesOpen}
@@ -23,21 +24,8 @@ use Rattle.rules.specs.Working.{room, width}
 use Rattle.rules.specs.States.{finish, run, made, stuckIn}
 use Rattle.rules.specs.Answers.{mostPositions, areaWords, startSet, outcome, elseNotGiven, evaluatedOf, evaluated}
 use Rattle.rules.specs.Answers.{evaluatedResult, start, elseStuck, stopped, ran, ranResult, ranArea}
-
--- ---- what an evaluation and a run ask of a book and a packet
-
--- not turned away by 1 to 9 and 10, the buffers aside
-pub record Granted (book packet : List ℕ) : Type 0 where
-  pub sizes : Sizes
-  pub accepted : verdict book ≡ Accepted sizes
-  pub words : length packet ≡ fieldsOf book
-  pub populated : namesOpen (mainOf book) ≡ false
-  pub narrow : width (mainOf book) (startSet packet) ≤ mostPackets
-
--- nor by 11
-pub record Admitted (book packet : List ℕ) : Type 0 where
-  pub granted : Granted book packet
-  pub positions : room (mainOf book) (startSet packet) ≤ mostPositions
+use Rattle.rules.specs.Answers.{verdictSays, evaluatedSays, ranSays}
+use Rattle.rules.specs.Promises.{Granted, Admitted, AcceptAnswer, EvaluateAnswer, RunAnswer}
 
 -- ---- the evaluator's answers, one law for each way that it returns
 
@@ -148,3 +136,17 @@ pub not-run-keeps : (book packet schedule result area : List ℕ) (r : Refusal)
     → (ranResult book packet schedule result (length area) ≡ result) × (ranArea book packet schedule (length result) area ≡ area)
 unfolding ranResult ranArea
 not-run-keeps book packet schedule result area r e = (rw e, rw e)
+
+-- ---- the promises of the public calls, from the answer itself
+
+pub accept-answer : {book : List ℕ} {r : Verdict} → r ≡ verdict book → AcceptAnswer book r
+accept-answer e = record { is = e; says = ap verdictSays e }
+
+pub evaluate-answer : {book packet result result′ : List ℕ} {r : Evaluated} → r ≡ evaluated book packet (length result)
+    → result′ ≡ evaluatedResult book packet result → EvaluateAnswer book packet result r result′
+evaluate-answer e o = record { is = e; says = ap evaluatedSays e; out = o }
+
+pub run-answer : {book packet schedule result area result′ area′ : List ℕ} {r : Ran}
+    → r ≡ ran book packet schedule (length result) (length area) → result′ ≡ ranResult book packet schedule result (length area)
+    → area′ ≡ ranArea book packet schedule (length result) area → RunAnswer book packet schedule result area r result′ area′
+run-answer e o w = record { is = e; says = ap ranSays e; out = o; work = w }

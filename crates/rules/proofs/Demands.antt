@@ -20,27 +20,27 @@ use Rattle.rules.specs.declared.Ran.the-variants.{NotRun}
 use Rattle.rules.specs.Packets.{Packet, Packets, mostPackets, Ascending, _∈_}
 use Rattle.rules.specs.Parts.{Part, Beside, parts, deep}
 use Rattle.rules.specs.Typing.{Right, rightBeside}
-use Rattle.rules.specs.Books.{Policy, writeBook, WellFormed, Book}
+use Rattle.rules.specs.Books.{Policy, writeBook, WellFormed, Book, Bytes}
 use Rattle.rules.specs.Reading.{fieldsOf, mainOf, verdict}
-use Rattle.rules.specs.Meaning.{Gives}
+use Rattle.rules.specs.Meaning.{Gives, Paired}
 use Rattle.rules.specs.Working.{room}
-use Rattle.rules.specs.States.{live, run, stuckIn}
+use Rattle.rules.specs.States.{live, run, stuckIn, held}
 use Rattle.rules.specs.Answers.{numberOf, areaWords, startSet, startSpot, given, evaluated, evaluatedResult}
 use Rattle.rules.specs.Answers.{start, ran, ranResult, ranArea}
+use Rattle.rules.specs.Fields.{Has}
+use Rattle.rules.specs.Promises.{packetsGiven, Granted, Admitted, stepsOf, Stops}
 use Rattle.rules.proofs.Lists.{All}
-use Rattle.rules.proofs.Measures.{held}
-use Rattle.rules.proofs.Serial.{Paired, serializes, commutes}
+use Rattle.rules.proofs.Serial.{serializes, commutes}
 use Rattle.rules.proofs.Padding.{words-exact, words-ascending, words-determined}
 use Rattle.rules.proofs.Schedules.{held-width}
 use Rattle.rules.proofs.Rooms.{live-room, room-reached}
 use Rattle.rules.proofs.Bounds.{steps-bound}
-use Rattle.rules.proofs.Stuck.{Has, never-stuck}
-use Rattle.rules.proofs.Decoding.{Bytes}
+use Rattle.rules.proofs.Stuck.{never-stuck}
 use Rattle.rules.proofs.Acceptance.{exactly, unique}
 use Rattle.rules.proofs.AcceptedBooks.{accepted-fields, accepted-formed, accepted-right, accepted-below}
 use Rattle.rules.proofs.AcceptedBooks.{accepted-tested, accepted-written}
-use Rattle.rules.proofs.Answering.{Granted, Admitted, not-given-keeps, not-run-keeps}
-use Rattle.rules.proofs.Runs.{stepsOf, Stops, stops, same-words}
+use Rattle.rules.proofs.Answering.{not-given-keeps, not-run-keeps}
+use Rattle.rules.proofs.Runs.{stops, same-words}
 -- the trials of document 01 marked *, the need of each condition of a right concurrent part, and the trap of pairing across packets
 pub use Rattle.rules.proofs.Trials.{starred}
 pub use Rattle.rules.proofs.Counterexamples.{each-needed, trap}
@@ -85,10 +85,6 @@ accepted-exactly = exactly
 
 pub policy-unique : (P Q : Policy) → WellFormed P → WellFormed Q → writeBook P ≡ writeBook Q → P ≡ Q
 policy-unique = unique
-
--- the packets given, as the k words of each that go to the result
-abbrev pub packetsGiven : List ℕ → List ℕ → Packets
-packetsGiven book packet = map (take (fieldsOf book)) (given book packet)
 
 module _ (book packet : List ℕ) (bytes : Bytes book) (granted : Granted book packet) where
   pub packets-exactly : (b : Packet) → (b ∈ packetsGiven book packet) ↔ Gives (mainOf book) packet b

@@ -9,12 +9,12 @@ use mathlib.Core.Option.{Option, none, some}
 use lib.Bits.{bitAnd, bitOr, or-lt, and-mask}
 use lib.ListN.{length, getD}
 use lib.Pow.{pow-lt, pow-pos}
-use Rattle.rules.specs.Masks.{has, allFields}
+use Rattle.rules.specs.Masks.{has, allFields, Sub}
 use Rattle.rules.specs.Parts.{Part, Id, Drop, Test, Set, Not, Sum, Seq, Beside, Table, Open, Predicate, Formed}
 use Rattle.rules.specs.Typing.{tested, written}
 use Rattle.rules.specs.Books.{mostDepth, Entry, Policy, entries, useOf, noEntry, tableOf, Scope, scopeOf, noUse}
 use Rattle.rules.specs.Books.{Fine, masksFit, OfBody, OfEach, WellFormed}
-use Rattle.rules.proofs.MaskLaws.{Sub, has-and}
+use Rattle.rules.proofs.MaskLaws.{has-and}
 use Rattle.rules.proofs.Decoding.{and-was}
 use Rattle.rules.proofs.Whole.{FineBody}
 use Rattle.rules.proofs.WrittenBytes.{masks-below}

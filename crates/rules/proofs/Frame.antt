@@ -5,12 +5,12 @@ use mathlib.Core.Bool.{false}
 use Prim.Native.Nat.{ℕ}
 use lib.ListN.{length, getD}
 use lib.Bits.{bitOr}
-use Rattle.rules.specs.Masks.{has, field}
+use Rattle.rules.specs.Masks.{has, field, Sub}
 use Rattle.rules.specs.Packets.{Packet, put, mix}
 use Rattle.rules.specs.Parts.{Part, Id, Drop, Test, Set, Not, Sum, Seq, Beside, Table, Open}
 use Rattle.rules.specs.Typing.{tested, written, Right}
 use Rattle.rules.specs.Meaning.{Gives}
-use Rattle.rules.proofs.MaskLaws.{has-field, Off, Sub, sub-or-l, sub-or-r, off-sub, sub-false}
+use Rattle.rules.proofs.MaskLaws.{has-field, Off, sub-or-l, sub-or-r, off-sub, sub-false}
 use Rattle.rules.proofs.PacketLaws.{length-put, put-other, other-field, passes-mix, put-mix, mix-back}
 use Rattle.rules.proofs.TypingLaws.{right-sides, fit-body}
 

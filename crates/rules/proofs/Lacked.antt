@@ -8,13 +8,13 @@ use lib.Dec.{ltb}
 use lib.ListN.{getD}
 use Rattle.rules.specs.declared.Order.{Order}
 use Rattle.rules.specs.declared.Order.the-variants.{Less, Same, More}
-use Rattle.rules.specs.Masks.{has, less}
+use Rattle.rules.specs.Masks.{has, less, Sub}
 use Rattle.rules.specs.Packets.{Packet, Packets, _∈_, without, orderBy, orderOf}
 use Rattle.rules.specs.Parts.{Part, Formed}
 use Rattle.rules.specs.Typing.{written, Right}
 use Rattle.rules.specs.Meaning.{Gives}
 use Rattle.rules.specs.Working.{out}
-use Rattle.rules.proofs.MaskLaws.{bits, Sub, sub-false, less-out}
+use Rattle.rules.proofs.MaskLaws.{bits, sub-false, less-out}
 use Rattle.rules.proofs.PacketLaws.{mix-off, without-on}
 use Rattle.rules.proofs.Frame.{keeps}
 use Rattle.rules.proofs.Exact.{meaning}

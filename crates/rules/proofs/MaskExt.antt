@@ -7,8 +7,7 @@ use mathlib.Core.Bool.{true}
 use lib.Dec.{eqb}
 use lib.Bits.{bitOr, or-step, or-zero-l}
 use borrow.Author.Tests.{eqb-true, eq-eqb}
-use Rattle.rules.specs.Masks.{has, within}
-use Rattle.rules.proofs.MaskLaws.{Sub}
+use Rattle.rules.specs.Masks.{has, within, Sub}
 
 -- field 0 is the lowest bit, and the fields above it are those of the half
 has-first : (a : ℕ) → has a 0 ≡ eqb (a % 2) 1

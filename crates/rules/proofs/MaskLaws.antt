@@ -8,7 +8,7 @@ use lib.Dec.{eqb}
 use lib.Bits.{bitAnd, bitOr, bitXor, xor-shr, xor-mod, or-shr, and-shr, or-mod, and-mod, and-comm}
 use lib.Pow.{pow-pos}
 use borrow.Author.Tests.{eqb-true}
-use Rattle.rules.specs.Masks.{has, field, apart, within, less}
+use Rattle.rules.specs.Masks.{has, Sub, field, apart, within, less}
 
 -- ---- one bit
 
@@ -63,12 +63,9 @@ has-field f = rw (div-self (pow-pos f))
 
 -- ---- what the tests of the typing say of fields
 
--- w has no field of m; b has every field of a
+-- w has no field of m
 abbrev pub Off : ℕ → ℕ → Type 0
 Off w m = (f : ℕ) → has m f ≡ true → has w f ≡ false
-
-abbrev pub Sub : ℕ → ℕ → Type 0
-Sub a b = (f : ℕ) → has a f ≡ true → has b f ≡ true
 
 pub bits {ℓ} : {P : Type ℓ} (b : Bool) → (b ≡ true → P) → (b ≡ false → P) → P
 bits true h k = h refl

@@ -42,14 +42,7 @@ peak (waiting t o q) = max (1 + peak t) (room q (final t))
 peak (negated k t) = 1 + peak t
 peak (both j t u) = 1 + (peak t + peak u)
 
--- the largest set that the state holds, and that it can still come to hold
-unfoldable pub held : Tree → ℕ
-held (placed o p s) = length s
-held (done s) = length s
-held (waiting t o q) = held t
-held (negated k t) = max (length k) (held t)
-held (both j t u) = max (held t) (held u)
-
+-- the largest set that the state can still come to hold
 unfoldable pub broad : Tree → ℕ
 broad (placed o p s) = width p s
 broad (done s) = length s

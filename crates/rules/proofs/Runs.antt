@@ -12,24 +12,12 @@ use Rattle.rules.specs.Reading.{fieldsOf, mainOf}
 use Rattle.rules.specs.Working.{steps, room}
 use Rattle.rules.specs.States.{finish, live, ready, run, made}
 use Rattle.rules.specs.Answers.{areaWords, startSet, startSpot, given, evaluatedResult, start, elseStuck, stopped, ran, ranResult}
-use Rattle.rules.specs.Masks.{allFields}
-use Rattle.rules.proofs.MaskLaws.{Sub}
+use Rattle.rules.specs.Masks.{allFields, Sub}
+use Rattle.rules.specs.Promises.{Admitted, stepsOf, Stops, finishes, goes-on}
 use Rattle.rules.proofs.Schedules.{Ending, enough, short, ending}
 use Rattle.rules.proofs.Rooms.{live-room}
 use Rattle.rules.proofs.Stuck.{never-stuck}
-use Rattle.rules.proofs.Answering.{Admitted, ran-admitted, evaluated-given}
-
--- N of a book and a packet
-abbrev pub stepsOf : List ℕ → List ℕ → ℕ
-stepsOf book packet = steps (mainOf book) (startSet packet)
-
--- what a run answers: at least N choices stop after exactly N steps, with as many packets as the evaluator gives; fewer stop
--- unfinished, each choice a step, with a step ready and no more positions live than the room
-pub data Stops (book packet schedule : List ℕ) (a : Ran) : Type 0 where
-  finishes : stepsOf book packet ≤ length schedule
-      → a ≡ Finished (record { steps = stepsOf book packet; count = length (given book packet) }) → Stops book packet schedule a
-  goes-on : length schedule < stepsOf book packet → (l r : ℕ) → l ≤ room (mainOf book) (startSet packet) → 0 < r
-      → a ≡ Running (record { steps = length schedule; live = l; ready = r }) → Stops book packet schedule a
+use Rattle.rules.proofs.Answering.{ran-admitted, evaluated-given}
 
 module _ (book packet schedule : List ℕ) (words area : ℕ) (admitted : Admitted book packet)
     (fit : mostPackets * fieldsOf book ≤ words) (wide : areaWords ≤ area) (right : Right (mainOf book))

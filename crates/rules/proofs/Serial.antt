@@ -9,15 +9,11 @@ use Rattle.rules.specs.Masks.{has}
 use Rattle.rules.specs.Packets.{Packet, mix, without}
 use Rattle.rules.specs.Parts.{Part, Beside}
 use Rattle.rules.specs.Typing.{tested, written, rightBeside, Right}
-use Rattle.rules.specs.Meaning.{Gives}
+use Rattle.rules.specs.Meaning.{Gives, Paired}
 use Rattle.rules.proofs.MaskLaws.{bits, off-sub}
 use Rattle.rules.proofs.PacketLaws.{length-mix, mix-on, mix-off, mix-is, mix-back}
 use Rattle.rules.proofs.TypingLaws.{RightParts, right-sides, right-turned}
 use Rattle.rules.proofs.Frame.{Kept, keeps, kept-more, frame}
-
--- b is a pairing of a packet that p gives of a without the fields wq and one that q gives of a without wp
-abbrev pub Paired : ℕ → ℕ → Part → Part → Packet → Packet → Type 0
-Paired wp wq p q a b = (x : Packet) × (y : Packet) × Gives p (without wq a) x × Gives q (without wp a) y × (b ≡ mix wq x y)
 
 module _ (wp wq : ℕ) (p q : Part) (right : rightBeside wp wq p q ≡ true) (rp : Right p) (rq : Right q) where
   sides : RightParts wp wq (tested p) (written p) (tested q) (written q)

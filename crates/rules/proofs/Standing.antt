@@ -7,9 +7,9 @@ use mathlib.Core.Path.{_≡_, refl, sym, ap, _∙_}
 use mathlib.Core.List.{List, [], _∷_, _++_, append-assoc, append-nil}
 use lib.ListN.{length, getD, drop, length-append}
 use lib.Seq.{drop-cons, drop-drop, drop-append-seam, drop-length}
-use Rattle.rules.specs.Books.{Entry, Policy, entries, bytesOf, contents, bodies, writeBook, firstBody, startIn, noEntry}
+use Rattle.rules.specs.Books.{Entry, Policy, entries, bytesOf, contents, bodies, writeBook, firstBody, startIn, noEntry, Bytes}
 use Rattle.rules.specs.Reading.{fieldsOf, tablesOf, lengthAt, readsAt, writesAt, bodyStart}
-use Rattle.rules.proofs.Decoding.{Bytes, drop-head}
+use Rattle.rules.proofs.Decoding.{drop-head}
 
 -- e is what s says as entry x: its masks, its length, and its body's bytes where they belong
 pub record Stands (s : List ℕ) (x : ℕ) (e : Entry) : Type 0 where

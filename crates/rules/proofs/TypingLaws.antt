@@ -3,11 +3,11 @@ use mathlib.Core.Path.{_≡_, refl, ap, _∙_}
 use mathlib.Core.Bool.{Bool, true, false, _&&_, and-comm}
 use Prim.Native.Nat.{ℕ}
 use lib.Bits.{bitOr}
-use Rattle.rules.specs.Masks.{apart, within}
+use Rattle.rules.specs.Masks.{apart, within, Sub}
 use Rattle.rules.specs.Parts.{Part}
 use Rattle.rules.specs.Typing.{tested, written, rightMasks, rightBeside, fitMasks, fits}
 use Rattle.rules.proofs.Decoding.{and-was}
-use Rattle.rules.proofs.MaskLaws.{Off, Sub, apart-off, apart-off-r, apart-turned, within-sub}
+use Rattle.rules.proofs.MaskLaws.{Off, apart-off, apart-off-r, apart-turned, within-sub}
 
 -- a concurrent part is right: what each side writes, and that neither side sees the other's fields
 pub record RightParts (wp wq tp mp tq mq : ℕ) : Type 0 where

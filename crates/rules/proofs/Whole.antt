@@ -12,12 +12,12 @@ use lib.ListN.{length, getD, drop, take}
 use borrow.Author.Tests.{eq-eqb, ne-eqb, eqb-true}
 use Rattle.rules.specs.declared.Reading.the-variants.{Next}
 use Rattle.rules.specs.Parts.{Part, Id, Drop, Test, Set, Not, Sum, Seq, Beside, Table, Open, size}
-use Rattle.rules.specs.Books.{mostFields, mostTables, mostBytes, mostDepth, Entry, Policy, entries, bytesOf}
+use Rattle.rules.specs.Books.{mostFields, mostTables, mostBytes, mostDepth, Entry, Policy, entries, bytesOf, Bytes}
 use Rattle.rules.specs.Books.{writeBook, firstBody, startIn, useOf, noEntry, tableOf, Scope, scopeOf, noUse, Fine}
 use Rattle.rules.specs.Books.{masksFit, OfBody, OfEach, WellFormed}
 use Rattle.rules.specs.Reading.{readBody, fieldsOf, tablesOf, lengthAt, readsAt, writesAt, bodyStart, readEntry}
 use Rattle.rules.specs.Reading.{readEntries, masksRight, partAt, bodyAt, useAt, mainOf, tablesFrom, policyOf}
-use Rattle.rules.proofs.Decoding.{Bytes, size-positive, Named, populated, unpopulated, Names, then-was, and-was}
+use Rattle.rules.proofs.Decoding.{size-positive, Named, populated, unpopulated, Names, then-was, and-was}
 use Rattle.rules.proofs.Decoding.{body-read, body-reads}
 use Rattle.rules.proofs.Standing.{Stands, AllStand, start-stands, book-stands, written-stands}
 

@@ -29,6 +29,10 @@ mostParts = 1023
 abbrev pub mostBeside : ℕ
 mostBeside = 4
 
+-- every number of s is a byte
+abbrev pub Bytes : List ℕ → Type 0
+Bytes s = (i : ℕ) → getD s i 0 < 256
+
 -- ---- a policy with its tables, and the book that it is written as
 
 -- a table's declared masks, and its body if it is populated

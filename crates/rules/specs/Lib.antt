@@ -9,4 +9,6 @@ pub mod Reading
 pub mod Meaning
 pub mod Working
 pub mod States
+pub mod Fields
 pub mod Answers
+pub mod Promises

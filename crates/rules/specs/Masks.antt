@@ -1,12 +1,17 @@
 -- Masks: a number whose bit f stands for field f (document 01, "Packets and sets").
 use Prim.Native.Nat.{ℕ, _-_, _/_, _%_, _^_}
-use mathlib.Core.Bool.{Bool}
+use mathlib.Core.Path.{_≡_}
+use mathlib.Core.Bool.{Bool, true}
 use lib.Bits.{bitAnd, bitOr, bitXor}
 use lib.Dec.{eqb, ltb}
 
 -- field f is in the mask m
 unfoldable pub has : ℕ → ℕ → Bool
 has m f = eqb (m / 2 ^ f % 2) 1
+
+-- b has every field of a
+abbrev pub Sub : ℕ → ℕ → Type 0
+Sub a b = (f : ℕ) → has a f ≡ true → has b f ≡ true
 
 -- the mask of one field, and of the fields 0 to k - 1
 abbrev pub field : ℕ → ℕ

@@ -1,8 +1,9 @@
 -- The published meaning (document 01, "Meaning"; document 001, Lemma 3 and Lemma 5): `Gives p a b` says that b is in ⟦p⟧ a.
+use Prim.Native.Nat.{ℕ}
 use mathlib.Core.Path.{_≡_}
 use mathlib.Core.Bool.{true}
 use mathlib.Core.Logic.{_⊎_}
-use Rattle.rules.specs.Packets.{Packet, Packets, _∈_, passes, put}
+use Rattle.rules.specs.Packets.{Packet, Packets, _∈_, passes, put, mix, without}
 use Rattle.rules.specs.Parts.{Part, Id, Drop, Test, Set, Not, Sum, Seq, Beside, Table, Open}
 
 abbrev pub Gives : Part → Packet → Packet → Type 0
@@ -20,3 +21,8 @@ Gives (Open x r w) a b = ⊥
 -- "The meaning on a set is the union over its packets"
 abbrev pub Among : Part → Packets → Packet → Type 0
 Among p s b = (a : Packet) × (a ∈ s) × Gives p a b
+
+-- what the two sides of a concurrent part give of one packet by themselves, put together: b is a pairing of a packet that p gives of a
+-- without the fields wq and one that q gives of a without wp
+abbrev pub Paired : ℕ → ℕ → Part → Part → Packet → Packet → Type 0
+Paired wp wq p q a b = (x : Packet) × (y : Packet) × Gives p (without wq a) x × Gives q (without wp a) y × (b ≡ mix wq x y)

@@ -1,5 +1,5 @@
 -- The states of a run, the steps, and a run under a schedule of bytes (document 01, "Steps").
-use Prim.Native.Nat.{ℕ, suc, _+_, _%_}
+use Prim.Native.Nat.{ℕ, suc, _+_, _%_, max}
 use mathlib.Core.Bool.{cond}
 use mathlib.Core.List.{List, [], _∷_, _++_, map}
 use lib.ListN.{length, getD}
@@ -99,6 +99,14 @@ live (done s) = 1
 live (waiting t o q) = 1 + live t
 live (negated k t) = 1 + live t
 live (both j t u) = 1 + (live t + live u)
+
+-- the most packets that a live position holds
+unfoldable pub held : Tree → ℕ
+held (placed o p s) = length s
+held (done s) = length s
+held (waiting t o q) = held t
+held (negated k t) = max (length k) (held t)
+held (both j t u) = max (held t) (held u)
 
 abbrev pub ready : Tree → ℕ
 ready t = length (next t)

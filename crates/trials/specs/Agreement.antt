@@ -11,6 +11,7 @@ use Rattle.rules.specs.declared.Ran.{Ran}
 use Rattle.rules.specs.Reading.{verdict}
 use Rattle.rules.specs.Answers.{Says, refusal, accepted, packets, finished, running, verdictSays, evaluatedSays, ranSays}
 use Rattle.rules.specs.Answers.{evaluated, evaluatedResult, ran, ranResult, ranArea, overwritten}
+use Rattle.rules.specs.Promises.{EvaluateAnswer, RunAnswer}
 use Rattle.trials.specs.Vectors.{zeroWords, answerPlace, numbersAt}
 use Rattle.trials.specs.Vectors.{bookOf, packetOf, scheduleOf, givenOf, ranOf, resultLent, workLent}
 
@@ -35,14 +36,10 @@ left after stated before = same after (overwritten stated before)
 
 -- what the call of `evaluate` on a vector answers, and what it leaves of a result buffer; then those of `run`
 abbrev pub Evaluates : (v result : List ℕ) → Evaluated → (after : List ℕ) → Type 0
-Evaluates v result r after =
-    (r ≡ evaluated (bookOf v) (packetOf v) (length result)) × (after ≡ evaluatedResult (bookOf v) (packetOf v) result)
+Evaluates v result r after = EvaluateAnswer (bookOf v) (packetOf v) result r after
 
 abbrev pub Runs : (v result work : List ℕ) → Ran → (after idle : List ℕ) → Type 0
-Runs v result work r after idle =
-    (r ≡ ran (bookOf v) (packetOf v) (scheduleOf v) (length result) (length work))
-    × (after ≡ ranResult (bookOf v) (packetOf v) (scheduleOf v) result (length work))
-    × (idle ≡ ranArea (bookOf v) (packetOf v) (scheduleOf v) (length result) work)
+Runs v result work r after idle = RunAnswer (bookOf v) (packetOf v) (scheduleOf v) result work r after idle
 
 unfoldable pub acceptAgrees : List ℕ → Bool
 acceptAgrees v = same (numbersOf (verdictSays (verdict (bookOf v)))) (numbersAt v (answerPlace 0))

@@ -15,11 +15,11 @@ use Rattle.rules.specs.declared.Reading.the-variants.{Next, Wrong}
 use Rattle.rules.specs.Codes.{operandsOf, partsOf}
 use Rattle.rules.specs.Parts.{Part, Id, Drop, Test, Set, Not, Sum, Seq, Beside, Table, Open, write, size}
 use Rattle.rules.specs.Typing.{tested, written, rightMasks, rightBeside, fits, wrongs}
-use Rattle.rules.specs.Books.{Scope, scopeOf, Fine, Entry, OfBody, bytesOf, masksFit, noUse, mostDepth, mostFields, entries}
+use Rattle.rules.specs.Books.{Scope, scopeOf, Fine, Entry, OfBody, bytesOf, masksFit, noUse, mostDepth, mostFields, entries, Bytes}
 use Rattle.rules.specs.Reading.{andThen, readTimes, partAt, fieldsOf, tablesOf, lengthAt, readsAt, writesAt, bodyStart}
 use Rattle.rules.specs.Reading.{masksRight, bodyAt, useAt, mainOf}
 use Rattle.rules.specs.Reading.{tablesFrom, policyOf, wrongBody, misfit, wrongsIn, misfitsIn, typingFaults}
-use Rattle.rules.proofs.Decoding.{Bytes, and-was, reads, drop-head, size-positive}
+use Rattle.rules.proofs.Decoding.{and-was, reads, drop-head, size-positive}
 use Rattle.rules.proofs.FineLaws.{OfUses, MasksBelow, fine-masks, no-uses, masks-use}
 use Rattle.rules.proofs.Standing.{Stands, AllStand}
 use Rattle.rules.proofs.Whole.{Readable, tableAt, tables-length, FineBody, FineBodies, entries-read}

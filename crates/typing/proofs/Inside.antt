@@ -10,10 +10,10 @@ use borrow.Author.Tests.{ne-eqb}
 use Rattle.rules.specs.declared.Sizes.{Sizes}
 use Rattle.rules.specs.declared.Verdict.the-variants.{Accepted}
 use Rattle.rules.specs.Parts.{Part, Not, Sum, Seq, Beside, write, size}
-use Rattle.rules.specs.Books.{Scope, scopeOf, Fine, OfBody, noUse, mostDepth, bytesOf, entries}
+use Rattle.rules.specs.Books.{Scope, scopeOf, Fine, OfBody, noUse, mostDepth, bytesOf, entries, Bytes}
 use Rattle.rules.specs.Reading.{after, partAt, fieldsOf, tablesOf, lengthAt, bodyStart, bodyAt, useAt, mainOf}
 use Rattle.rules.specs.Reading.{tablesFrom, policyOf, verdict}
-use Rattle.rules.proofs.Decoding.{Bytes, reads, drop-head, size-positive, written-within}
+use Rattle.rules.proofs.Decoding.{reads, drop-head, size-positive, written-within}
 use Rattle.rules.proofs.Standing.{Stands, AllStand}
 use Rattle.rules.proofs.Whole.{tableAt, FineBody, FineBodies, entries-read}
 use Rattle.rules.proofs.AcceptedBooks.{accepted-readable}

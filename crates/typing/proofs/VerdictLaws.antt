@@ -10,7 +10,7 @@ use Rattle.rules.specs.declared.Sizes.{Sizes}
 use Rattle.rules.specs.declared.Verdict.{Verdict}
 use Rattle.rules.specs.declared.Verdict.the-variants.{Accepted, Refused}
 use Rattle.rules.specs.Reading.{tablesOf, policyOf, typingFaults, sizesOf, unlessFault, verdict}
-use Rattle.rules.proofs.Decoding.{Bytes}
+use Rattle.rules.specs.Books.{Bytes}
 use Rattle.book.specs.Form.{formVerdict}
 use Rattle.book.proofs.FormLaws.{verdict-form, form-right}
 use Rattle.typing.specs.Judging.{judgeEntry, fitEntry, inTurn, marked}

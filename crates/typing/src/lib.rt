@@ -8,7 +8,8 @@ ghost use lib.ListN.{getD, length};
 ghost use Rattle.rules.specs.Codes.{partsOf};
 ghost use Rattle.rules.specs.Masks.{field};
 ghost use Rattle.rules.specs.Parts.{Id};
-ghost use Rattle.rules.specs.Reading.{built, verdict};
+ghost use Rattle.rules.specs.Reading.{built};
+ghost use Rattle.rules.specs.Promises.{AcceptAnswer};
 ghost use Rattle.book.specs.Counting.{uses};
 ghost use Rattle.typing.specs.Judging.{low, masksOf, marked, firstOf, rightSides, BothFound, BesideFound};
 ghost use Rattle.typing.specs.Judging.{Found, judgeEntry, fitMasked, fitEntry};
@@ -236,7 +237,7 @@ fn entry_faults(book: &[u8], x: u8) -> Faults
 // The verdict on a book: the numbers 1 to 7 in their order, or its sizes. The first wrong concurrent part ends the loop;
 // the first body that does not fit is reported only if no body has such a part.
 pub fn accept(book: &[u8]) -> Verdict
-    ensures { λ r. ⌜ r ≡ verdict (now (book .entry)) ⌝ }
+    ensures { λ r. ⌜ AcceptAnswer (now (book .entry)) r ⌝ }
 {
     let form = book::structure(book);
     let Verdict::Accepted(sizes) = form else {

@@ -11,8 +11,8 @@ evaluate-spec =
     (tie.spec
     (λ c κs. search needs)
     (λ c. search needs)
-    (λ c κs. sym (c .before .before .before .before .accept .ensures) ∙ c .before .before .v .given .1)
+    (λ c κs. sym (c .before .before .before .before .accept .ensures .is) ∙ c .before .before .v .given .1)
     (λ c. search needs)
     (λ c. search needs)
     (λ c. search needs)
-    (λ c. refused _ _ _ _ (sym (c .before .v2 .given .1) ∙ c .before .before .before .accept .ensures)))
+    (λ c. refused _ _ _ _ (sym (c .before .v2 .given .1) ∙ c .before .before .before .accept .ensures .is)))

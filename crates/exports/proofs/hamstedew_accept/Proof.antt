@@ -12,7 +12,7 @@ returns-2 c =
     let l = c .before .before in
     let f = l .before .before in
     let a = f .before in
-    face-laid (rw (a .accept .ensures) at (f .verdict-face .ensures)) (search needs) (l .lay .ensures .0) (l .lay .ensures .1)
+    face-laid (rw (a .accept .ensures .is) at (f .verdict-face .ensures)) (search needs) (l .lay .ensures .0) (l .lay .ensures .1)
 
 pub hamstedew-accept-spec : {M : Type 1} → statement M
 hamstedew-accept-spec =

@@ -12,8 +12,8 @@ returns-2 c =
     let l = c .before .before in
     let f = l .before .before in
     let a = f .before .before .before in
-    evaluate-laid (rw (a .evaluate .ensures .0) at (f .evaluated-face .ensures)) (search needs) (l .lay .ensures .0) (l .lay .ensures .1)
-    (a .evaluate .ensures .1)
+    evaluate-laid (rw (a .evaluate .ensures .is) at (f .evaluated-face .ensures)) (search needs) (l .lay .ensures .0) (l .lay .ensures .1)
+    (a .evaluate .ensures .out)
 
 pub hamstedew-evaluate-spec : {M : Type 1} → statement M
 hamstedew-evaluate-spec =

@@ -12,8 +12,8 @@ returns-2 c =
     let l = c .before .before in
     let f = l .before .before in
     let a = f .before .before .before .before .before in
-    run-laid (rw (a .run .ensures .0) at (f .ran-face .ensures)) (search needs) (l .lay .ensures .0) (l .lay .ensures .1)
-    (a .run .ensures .1) (a .run .ensures .2)
+    run-laid (rw (a .run .ensures .is) at (f .ran-face .ensures)) (search needs) (l .lay .ensures .0) (l .lay .ensures .1)
+    (a .run .ensures .out) (a .run .ensures .work)
 
 pub hamstedew-run-spec : {M : Type 1} → statement M
 hamstedew-run-spec =

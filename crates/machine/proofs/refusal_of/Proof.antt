@@ -21,7 +21,7 @@ returns c =
     let s = c .before .before .before .before .before .before .before .before .before .before in
     let a = s .args in
     let v = c .before .before .v2 in
-    let e = sym (c .before .before .before .before .accept .ensures) ∙ v .given .1 in
+    let e = sym (c .before .before .before .before .accept .ensures .is) ∙ v .given .1 in
     let f = fields-are (now a.book) (v .given .0 .0) e in
     refused-packet (now a.book) (now a.packet) (now a.schedule) (now a.result) (now a.work) (v .given .0 .0) e
     (λ k. c .if1 .taken (k ∙ sym (f .0)))
@@ -31,7 +31,7 @@ mul-if2 c =
     let s = c .before .before .before .before .before .before .before .before .before .before in
     let a = s .args in
     let v = c .before .before .v2 in
-    let e = sym (c .before .before .before .before .accept .ensures) ∙ v .given .1 in
+    let e = sym (c .before .before .before .before .accept .ensures .is) ∙ v .given .1 in
     let f = fields-are (now a.book) (v .given .0 .0) e in
     omega (arith, f .1)
 
@@ -40,7 +40,7 @@ returns-2 c =
     let s = c .before .before .before .before .before .before .before .before .before .before .before in
     let a = s .args in
     let v = c .before .before .before .v2 in
-    let e = sym (c .before .before .before .before .before .accept .ensures) ∙ v .given .1 in
+    let e = sym (c .before .before .before .before .before .accept .ensures .is) ∙ v .given .1 in
     let f = fields-are (now a.book) (v .given .0 .0) e in
     refused-result (now a.book) (now a.packet) (now a.schedule) (now a.result) (now a.work) (v .given .0 .0) e
     (c .before .if1 .left ∙ f .0) (omega (arith, c .if2 .taken, f .0))
@@ -50,7 +50,7 @@ returns-3 c =
     let s = c .before .before .before .before .before .before .before .before .before .before .before .before in
     let a = s .args in
     let v = c .before .before .before .before .v2 in
-    let e = sym (c .before .before .before .before .before .before .accept .ensures) ∙ v .given .1 in
+    let e = sym (c .before .before .before .before .before .before .accept .ensures .is) ∙ v .given .1 in
     let f = fields-are (now a.book) (v .given .0 .0) e in
     refused-area (now a.book) (now a.packet) (now a.schedule) (now a.result) (now a.work) (v .given .0 .0) e
     (c .before .before .if1 .left ∙ f .0)
@@ -63,14 +63,14 @@ returns-4 c =
     let v = c .before .v in
     let accept = c .before .before .before .accept in
     refused-book (now a.book) (now a.packet) (now a.schedule) (now a.result) (now a.work) (v .given .0 .0) (accept .result)
-    (accept .ensures) (v .given .1)
+    (accept .ensures .is) (v .given .1)
 
 returns-5 : tie.Need-returns-5
 returns-5 c =
     let s = c .before .before .before .before .before .before .before .before .before .before .before .before in
     let a = s .args in
     let v = c .before .before .before .before .v2 in
-    let e = sym (c .before .before .before .before .before .before .accept .ensures) ∙ v .given .1 in
+    let e = sym (c .before .before .before .before .before .before .accept .ensures .is) ∙ v .given .1 in
     let f = fields-are (now a.book) (v .given .0 .0) e in
     refused-evaluated (now a.book) (now a.packet) (now a.schedule) (now a.result) (now a.work) (v .given .0 .0) e
     (c .before .before .if1 .left ∙ f .0)

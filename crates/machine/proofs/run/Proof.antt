@@ -19,7 +19,7 @@ run-given-requires : tie.Need-run-given-requires
 run-given-requires c κs =
     let e = c .before .before .before .e in
     let evaluate = c .before .before .before .before .before .before .evaluate in
-    record { outcome = e .given .0 .0; given = sym (evaluate .ensures .0) ∙ e .given .1; needs = refl }
+    record { outcome = e .given .0 .0; given = sym (evaluate .ensures .is) ∙ e .given .1; needs = refl }
 
 enum-known-e-2 : tie.Need-enum-known-e-2
 enum-known-e-2 c = search needs
@@ -28,7 +28,7 @@ refusal-of-requires : tie.Need-refusal-of-requires
 refusal-of-requires c κs =
     let e = c .before .before .before .e2 in
     let evaluate = c .before .before .before .before .before .before .evaluate in
-    sym (e .given .1) ∙ evaluate .ensures .0
+    sym (e .given .1) ∙ evaluate .ensures .is
 
 same-length : tie.Need-same-length
 same-length c = search needs
@@ -38,8 +38,7 @@ same-length-2 c = search needs
 
 returns : tie.Need-returns
 returns c =
-    let q = c .before .before .before .before .run-given .ensures in
-    (q .says, q .out, q .area)
+    c .before .before .before .before .run-given .ensures
 
 same-length-3 : tie.Need-same-length-3
 same-length-3 c = search needs
@@ -52,8 +51,7 @@ returns-2 c =
     let s = c .before .before .before .before .before .before .before .before .before .before .before .before .before .before in
     let a = s .args in
     let refused = c .refusal-of in
-    let q = turned-away (now a.book) (now a.packet) (now a.schedule) (now a.result) (now a.work) (refused .result) (refused .ensures) in
-    (q .says, q .out, q .area)
+    turned-away (now a.book) (now a.packet) (now a.schedule) (now a.result) (now a.work) (refused .result) (refused .ensures)
 
 pub run-spec : {M : Type 1} → statement M
 run-spec =

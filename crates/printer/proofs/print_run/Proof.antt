@@ -27,7 +27,7 @@ print-accepted-requires c κs =
     let n = a .before .before .before .before .number-at .ensures in
     let input = a .before .before .before .before .before .before .before .args .input .now in
     accepts input _ _ n (a .before .before .before .if2 .left) (a .before .before .if3 .left)
-    (book-judged input _ n (a .accept .ensures) (c .before .z .given .1))
+    (book-judged input _ n (a .accept .ensures .is) (c .before .z .given .1))
 
 returns-4 : tie.Need-returns-4
 returns-4 c =
@@ -36,7 +36,7 @@ returns-4 c =
     let input = a .before .before .before .before .before .before .before .args .input .now in
     let few = rw n at (a .before .before .before .if2 .left) in
     let whole = rw n at (a .before .before .if3 .left) in
-    let verdict = book-judged input _ n (a .accept .ensures) (c .before .before .r .given .1) in
+    let verdict = book-judged input _ n (a .accept .ensures .is) (c .before .before .r .given .1) in
     told (rw (printed-refused input (a .before .before .before .before .before .if1 .left) few whole _ verdict) (c .refused4 .ensures))
 
 returns-5 : tie.Need-returns-5

@@ -2,6 +2,7 @@
 use Prim.Native.Nat.{suc, _-_, _≤_}
 use native.Mathlib.Omega.{arith}
 use mathlib.Core.Path.{_≡_, _∙_}
+use Rattle.rules.proofs.Answering.{accept-answer}
 use Rattle.typing.proofs.JudgeLaws.{faultFrom, faultOf, faults-start, faults-stop, faults-step, faults-end}
 use Rattle.typing.proofs.VerdictLaws.{Decides, form-refused, decides}
 use borrow.Author.Needs.{needs}
@@ -18,8 +19,9 @@ returns : tie.Need-returns Inv-loop μ-loop
 returns c =
     let at-structure = c .before .before in
     let at-slice = at-structure .before in
-    form-refused (at-slice .before .args .book .now) (λ i. at-slice .shared-slice-known .given i .fits) _
-    (at-structure .structure .ensures) _ (c .enum-told .given .1)
+    accept-answer
+    (form-refused (at-slice .before .args .book .now) (λ i. at-slice .shared-slice-known .given i .fits) _
+    (at-structure .structure .ensures) _ (c .enum-told .given .1))
 
 loop-holds : tie.Need-loop-holds Inv-loop μ-loop
 loop-holds c =
@@ -36,9 +38,10 @@ returns-2 : tie.Need-returns-2 Inv-loop μ-loop
 returns-2 c =
     let at-faults = c .before in
     let at-loop = at-faults .before .before in
-    at-loop .loop .inv .2 .0 _
+    accept-answer
+    (at-loop .loop .inv .2 .0 _
     (at-loop .loop .inv .1
-    ∙ faults-stop _ _ _ (at-loop .loop .unfit) (omega arith) _ (at-faults .entry-faults .ensures .0) (c .if1 .taken)) (c .if1 .taken)
+    ∙ faults-stop _ _ _ (at-loop .loop .unfit) (omega arith) _ (at-faults .entry-faults .ensures .0) (c .if1 .taken)) (c .if1 .taken))
 
 loop-again : tie.Need-loop-again Inv-loop μ-loop
 loop-again c =
@@ -55,12 +58,12 @@ loop-again c =
 returns-3 : tie.Need-returns-3 Inv-loop μ-loop
 returns-3 c =
     let at-loop = c .before .before in
-    at-loop .loop .inv .2 .0 _ (at-loop .loop .inv .1 ∙ faults-end _ _ _ _ (omega arith)) (c .if2 .taken)
+    accept-answer (at-loop .loop .inv .2 .0 _ (at-loop .loop .inv .1 ∙ faults-end _ _ _ _ (omega arith)) (c .if2 .taken))
 
 returns-4 : tie.Need-returns-4 Inv-loop μ-loop
 returns-4 c =
     let at-loop = c .before .before in
-    at-loop .loop .inv .2 .1 (at-loop .loop .inv .1 ∙ faults-end _ _ _ _ (omega arith) ∙ c .if2 .left)
+    accept-answer (at-loop .loop .inv .2 .1 (at-loop .loop .inv .1 ∙ faults-end _ _ _ _ (omega arith) ∙ c .if2 .left))
 
 pub accept-spec : {M : Type 1} → statement M
 accept-spec =

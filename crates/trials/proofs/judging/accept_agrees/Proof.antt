@@ -8,7 +8,7 @@ returns : tie.Need-returns
 unfolding acceptAgrees
 returns c =
     let v = c .before .before in
-    rw (v .verdict-numbers .ensures, c .before .numbers-at .ensures, v .before .accept .ensures, v .before .before .book-of .ensures)
+    rw (v .verdict-numbers .ensures, c .before .numbers-at .ensures, v .before .accept .ensures .is, v .before .before .book-of .ensures)
     at (c .same-numbers .ensures)
 
 pub accept-agrees-spec : {M : Type 1} → statement M

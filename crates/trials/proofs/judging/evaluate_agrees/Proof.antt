@@ -12,7 +12,7 @@ returns c =
     let s = d .before .before .before .before .before in
     let learnt = rw (c .before .given-left .ensures, g .same-numbers .ensures) at (c .both .ensures) in
     let stated = rw (g .before .before .evaluated-numbers .ensures, g .before .numbers-at .ensures) at learnt in
-    rw (d .evaluate-on .ensures .0, d .evaluate-on .ensures .1, s .pre) at stated
+    rw (d .evaluate-on .ensures .is, d .evaluate-on .ensures .out, s .pre) at stated
 
 pub evaluate-agrees-spec : {M : Type 1} → statement M
 evaluate-agrees-spec =

@@ -13,7 +13,7 @@ returns c =
     let kept = rw (c .before .both .ensures, c .before .before .work-left .ensures) at (c .both2 .ensures) in
     let learnt = rw (c .before .before .before .before .ran-left .ensures, g .same-numbers .ensures) at kept in
     let stated = rw (g .before .before .ran-numbers .ensures, g .before .numbers-at .ensures) at learnt in
-    rw (d .run-on .ensures .0, d .run-on .ensures .1, d .run-on .ensures .2, s .pre .0, s .pre .1) at stated
+    rw (d .run-on .ensures .is, d .run-on .ensures .out, d .run-on .ensures .work, s .pre .0, s .pre .1) at stated
 
 pub run-agrees-spec : {M : Type 1} → statement M
 run-agrees-spec =
