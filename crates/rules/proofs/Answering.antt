@@ -1,14 +1,14 @@
 -- When each answer of the evaluator and of a run is given, and that nothing lent changes where a call is turned away.
 use Prim.Native.Nat.{ℕ, _*_, _≤_, _<_}
 use native.Mathlib.Omega.{arith}
-use mathlib.Core.Path.{_≡_, refl, sym, ap}
-use mathlib.Core.Bool.{Bool, true, false, not}
+use mathlib.Core.Path.{_≡_, refl, sym, ap, _∙_}
+use mathlib.Core.Bool.{Bool, true, false, not, _&&_}
 use mathlib.Core.List.{List}
 use lib.Dec.{leb, eqb}
 use lib.ListN.{length}
 use borrow.Author.Tests.{leb-true, le-leb, lt-leb, eqb-true, eq-eqb, ne-eqb, not-true}
 use Rattle.rules.specs.declared.Refusal.{Refusal}
-use Rattle.rules.specs.declared.Refusal.the-variants.{PacketLength, Unpopulated, TooWide, BufferLength}
+use Rattle.rules.specs.declared.Refusal.the-variants.{PacketLength, Unpopulated, TooWide, Positions, BufferLength}
 use Rattle.rules.specs.declared.Sizes.{Sizes}
 use Rattle.rules.specs.declared.Verdict.{Verdict}
 use Rattle.rules.specs.declared.Verdict.the-variants.{Accepted, Refused}
@@ -23,7 +23,7 @@ use Rattle.rules.specs.Reading.{fieldsOf, mainOf, verdict}
 use Rattle.rules.specs.Working.{room, width}
 use Rattle.rules.specs.States.{finish, run, made, stuckIn}
 use Rattle.rules.specs.Answers.{mostPositions, areaWords, startSet, outcome, elseNotGiven, evaluatedOf, evaluated}
-use Rattle.rules.specs.Answers.{evaluatedResult, start, elseStuck, stopped, ran, ranResult, ranArea}
+use Rattle.rules.specs.Answers.{evaluatedResult, start, elseNotRun, elseStuck, stopped, ran, ranResult, ranArea}
 use Rattle.rules.specs.Answers.{verdictSays, evaluatedSays, ranSays}
 use Rattle.rules.specs.Promises.{Granted, Admitted, AcceptAnswer, EvaluateAnswer, RunAnswer}
 
@@ -104,25 +104,89 @@ given-was book packet words o q =
       cc,
     )
 
--- ---- a run that is admitted stops as its schedule says
+-- ---- a run's answers, one law for each way that it returns, in document 01's order
 
+and-no : (b : Bool) → (b && false) ≡ false
+and-no true = refl
+and-no false = refl
+
+module _ (book packet schedule : List ℕ) (words area : ℕ) where
+  pub ran-refused : (r : Refusal) → verdict book ≡ Refused r → ran book packet schedule words area ≡ NotRun r
+  unfolding ran
+  ran-refused r e = rw e
+
+  module _ (z : Sizes) (a : verdict book ≡ Accepted z) where
+    pub ran-packet : (length packet ≡ fieldsOf book → ⊥) → ran book packet schedule words area ≡ NotRun PacketLength
+    unfolding ran
+    ran-packet h = rw (a, ne-eqb (length packet) (fieldsOf book) h)
+
+    module _ (l : length packet ≡ fieldsOf book) where
+      pub ran-result : words < mostPackets * fieldsOf book → ran book packet schedule words area ≡ NotRun BufferLength
+      unfolding ran
+      ran-result h = rw (a, eq-eqb (length packet) (fieldsOf book) l, lt-leb (mostPackets * fieldsOf book) words h)
+
+      pub ran-area : area < areaWords → ran book packet schedule words area ≡ NotRun BufferLength
+      unfolding ran
+      ran-area h =
+          rw (a, eq-eqb (length packet) (fieldsOf book) l, lt-leb areaWords area h, and-no (leb (mostPackets * fieldsOf book) words))
+
+      module _ (b : mostPackets * fieldsOf book ≤ words) (w : areaWords ≤ area) where
+        pub ran-open : namesOpen (mainOf book) ≡ true → ran book packet schedule words area ≡ NotRun Unpopulated
+        unfolding ran
+        ran-open h =
+            rw (
+              a,
+              eq-eqb (length packet) (fieldsOf book) l,
+              le-leb (mostPackets * fieldsOf book) words b,
+              le-leb areaWords area w,
+              h,
+            )
+
+        -- whatever the room
+        pub ran-wide : namesOpen (mainOf book) ≡ false → mostPackets < width (mainOf book) (startSet packet)
+            → ran book packet schedule words area ≡ NotRun TooWide
+        unfolding ran
+        ran-wide n h =
+            rw (
+              a,
+              eq-eqb (length packet) (fieldsOf book) l,
+              le-leb (mostPackets * fieldsOf book) words b,
+              le-leb areaWords area w,
+              n,
+              lt-leb (width (mainOf book) (startSet packet)) mostPackets h,
+            )
+
+  module _ (b : mostPackets * fieldsOf book ≤ words) (w : areaWords ≤ area) where
+    -- past 1 to 10
+    ran-granted : Granted book packet
+        → ran book packet schedule words area
+        ≡ elseNotRun (leb (room (mainOf book) (startSet packet)) mostPositions) Positions
+        (elseStuck (stuckIn (start book packet) schedule)
+        (stopped (made (start book packet) schedule) (run (start book packet) schedule) (finish (run (start book packet) schedule))))
+    unfolding ran
+    ran-granted g =
+        rw (
+          g .accepted,
+          eq-eqb (length packet) (fieldsOf book) (g .words),
+          le-leb (mostPackets * fieldsOf book) words b,
+          le-leb areaWords area w,
+          g .populated,
+          le-leb (width (mainOf book) (startSet packet)) mostPackets (g .narrow),
+        )
+
+    pub ran-positions : Granted book packet → mostPositions < room (mainOf book) (startSet packet)
+        → ran book packet schedule words area ≡ NotRun Positions
+    ran-positions g h = ran-granted g ∙ rw (lt-leb (room (mainOf book) (startSet packet)) mostPositions h)
+
+-- a run that is admitted stops as its schedule says
 pub ran-admitted : (book packet schedule : List ℕ) (words area : ℕ) → Admitted book packet → mostPackets * fieldsOf book ≤ words
     → areaWords ≤ area
     → ran book packet schedule words area
     ≡ elseStuck (stuckIn (start book packet) schedule)
     (stopped (made (start book packet) schedule) (run (start book packet) schedule) (finish (run (start book packet) schedule)))
-unfolding ran
 ran-admitted book packet schedule words area a b w =
-    let g = a .granted in
-    rw (
-      g .accepted,
-      eq-eqb (length packet) (fieldsOf book) (g .words),
-      le-leb (mostPackets * fieldsOf book) words b,
-      le-leb areaWords area w,
-      g .populated,
-      le-leb (width (mainOf book) (startSet packet)) mostPackets (g .narrow),
-      le-leb (room (mainOf book) (startSet packet)) mostPositions (a .positions),
-    )
+    ran-granted book packet schedule words area b w (a .granted)
+    ∙ rw (le-leb (room (mainOf book) (startSet packet)) mostPositions (a .positions))
 
 -- ---- "No refusal alters the result buffer or the working area"
 

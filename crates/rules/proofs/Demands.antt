@@ -2,12 +2,12 @@
 -- What they say of the code stands in the contracts of the functions, which are stated by the same definitions.
 use Prim.Native.Nat.{ℕ, _*_, _^_, _≤_, _<_}
 use native.Mathlib.Omega.{arith}
-use mathlib.Core.Path.{_≡_, sym}
+use mathlib.Core.Path.{_≡_, sym, _∙_}
 use mathlib.Core.Bool.{true}
 use mathlib.Core.Logic.{_↔_}
 use mathlib.Core.List.{List, [], map}
 use lib.Dec.{lit≤}
-use lib.ListN.{length, take}
+use lib.ListN.{length, take, length-map}
 use Rattle.rules.specs.declared.Refusal.{Refusal}
 use Rattle.rules.specs.declared.Refusal.the-variants.{BookLength, Counts, Lengths, EntryMasks, Form, Limits}
 use Rattle.rules.specs.declared.Refusal.the-variants.{Typing, PacketLength, Unpopulated, TooWide, Positions}
@@ -17,7 +17,7 @@ use Rattle.rules.specs.declared.Verdict.{Verdict}
 use Rattle.rules.specs.declared.Verdict.the-variants.{Accepted}
 use Rattle.rules.specs.declared.Evaluated.the-variants.{NotGiven}
 use Rattle.rules.specs.declared.Ran.the-variants.{NotRun}
-use Rattle.rules.specs.Packets.{Packet, Packets, mostPackets, Ascending, _∈_}
+use Rattle.rules.specs.Packets.{Packet, Packets, mostPackets, Ascending, _∈_, valuesOf}
 use Rattle.rules.specs.Parts.{Part, Beside, parts, deep}
 use Rattle.rules.specs.Typing.{Right, rightBeside}
 use Rattle.rules.specs.Books.{Policy, writeBook, WellFormed, Book, Bytes}
@@ -26,12 +26,13 @@ use Rattle.rules.specs.Meaning.{Gives, Paired}
 use Rattle.rules.specs.Working.{room}
 use Rattle.rules.specs.States.{live, run, stuckIn, held}
 use Rattle.rules.specs.Answers.{numberOf, areaWords, startSet, startSpot, given, evaluated, evaluatedResult}
-use Rattle.rules.specs.Answers.{start, ran, ranResult, ranArea}
+use Rattle.rules.specs.Answers.{overwritten, start, ran, ranResult, ranArea}
 use Rattle.rules.specs.Fields.{Has}
 use Rattle.rules.specs.Promises.{packetsGiven, Granted, Admitted, stepsOf, Stops}
+use Rattle.rules.specs.Ends.{TurnedAway, FinishedExactly, RunningExactly}
 use Rattle.rules.proofs.Lists.{All}
 use Rattle.rules.proofs.Serial.{serializes, commutes}
-use Rattle.rules.proofs.Padding.{words-exact, words-ascending, words-determined}
+use Rattle.rules.proofs.Padding.{as-long, words-exact, words-ascending, words-determined}
 use Rattle.rules.proofs.Schedules.{held-width}
 use Rattle.rules.proofs.Rooms.{live-room, room-reached}
 use Rattle.rules.proofs.Bounds.{steps-bound}
@@ -39,8 +40,10 @@ use Rattle.rules.proofs.Stuck.{never-stuck}
 use Rattle.rules.proofs.Acceptance.{exactly, unique}
 use Rattle.rules.proofs.AcceptedBooks.{accepted-fields, accepted-formed, accepted-right, accepted-below}
 use Rattle.rules.proofs.AcceptedBooks.{accepted-tested, accepted-written}
-use Rattle.rules.proofs.Answering.{not-given-keeps, not-run-keeps}
-use Rattle.rules.proofs.Runs.{stops, same-words}
+use Rattle.rules.proofs.Answering.{evaluated-given, not-given-keeps, not-run-keeps}
+use Rattle.rules.proofs.Runs.{stops, at-finish, runs-on, same-words}
+use Rattle.rules.proofs.Ends.{LetThrough, turned-away-is, turned-away-was, let-through-was, words-front, words-others}
+use Rattle.rules.proofs.Ends.{finished-clears, running-clears, running-keeps}
 -- the trials of document 01 marked *, the need of each condition of a right concurrent part, and the trap of pairing across packets
 pub use Rattle.rules.proofs.Trials.{starred}
 pub use Rattle.rules.proofs.Counterexamples.{each-needed, trap}
@@ -144,6 +147,49 @@ module _ (book packet : List ℕ) (bytes : Bytes book) (admitted : Admitted book
       same-words book packet schedule result area admitted fit wide (accepted-right book z a bytes) (accepted-tested book z a bytes)
       (accepted-written book z a bytes)
 
+  -- at least N choices: N steps, and the result holds exactly the packets of demand 2's meaning
+  pub finished-exactly : (schedule result area : List ℕ) → mostPackets * fieldsOf book ≤ length result → areaWords ≤ length area
+      → stepsOf book packet ≤ length schedule
+      → FinishedExactly book packet result area (ran book packet schedule (length result) (length area))
+      (ranResult book packet schedule result (length area)) (ranArea book packet schedule (length result) area)
+  unfolding evaluatedResult
+  finished-exactly schedule result area fit wide enough =
+      let g = admitted .granted in
+      let k = fieldsOf book in
+      let exact = packets-exactly book packet bytes g in
+      let long : (b : Packet) → b ∈ packetsGiven book packet → length b ≡ k =
+      λ b m. as-long (mainOf book) packet b (exact b .0 m) ∙ g .words in
+      let stop = at-finish (one-number schedule (length result) (length area) fit wide) enough in
+      let left : ranResult book packet schedule result (length area) ≡ overwritten (valuesOf k (given book packet)) result =
+      same-result schedule result (length area) fit wide enough ∙ rw (evaluated-given book packet (length result) g fit) in
+      record {
+        packets = packetsGiven book packet;
+        ascending = packets-ascending book packet bytes g;
+        exact = exact;
+        long = long;
+        answer = stop ∙ rw (length-map (given book packet) (take k));
+        front = rw left (words-front k (given book packet) result long);
+        others = rw left (words-others k (given book packet) result long);
+        cleared = finished-clears book packet schedule result area _ stop;
+      }
+
+  -- fewer: a step for each choice, a step ready, and the result as it was
+  pub running-exactly : (schedule result area : List ℕ) → mostPackets * fieldsOf book ≤ length result → areaWords ≤ length area
+      → length schedule < stepsOf book packet
+      → RunningExactly book packet schedule result area (ran book packet schedule (length result) (length area))
+      (ranResult book packet schedule result (length area)) (ranArea book packet schedule (length result) area)
+  running-exactly schedule result area fit wide few =
+      let z = admitted .granted .sizes in
+      let a = admitted .granted .accepted in
+      let r = runs-on book packet schedule (length result) (length area) admitted fit wide (accepted-right book z a bytes)
+      (accepted-tested book z a bytes) (accepted-written book z a bytes) few in
+      record {
+        answer = r .0;
+        more = r .1;
+        kept = running-keeps book packet schedule result area _ (r .0);
+        cleared = running-clears book packet schedule result area _ (r .0);
+      }
+
   -- N ≤ 4·n·16^D
   pub bounded : stepsOf book packet ≤ 4 * parts (mainOf book) * 16 ^ deep (mainOf book)
   bounded = steps-bound (mainOf book) (startSet packet) (admitted .granted .narrow)
@@ -173,3 +219,20 @@ module _ (book packet : List ℕ) (bytes : Bytes book) (admitted : Admitted book
       let a = admitted .granted .accepted in
       never-stuck (startSpot book) (mainOf book) (accepted-right book z a bytes) (accepted-tested book z a bytes)
       (accepted-written book z a bytes) (startSet packet)
+
+-- ---- when a run is turned away: exactly by the first number that applies, in document 01's order, whatever the schedule, and never
+-- by 13; what is not turned away is admitted, and its buffers are long enough
+
+module _ (book packet schedule : List ℕ) (words area : ℕ) (bytes : Bytes book) where
+  let-through-stops : LetThrough book packet words area → Stops book packet schedule (ran book packet schedule words area)
+  let-through-stops l = one-number book packet bytes (l .0) schedule words area (l .1) (l .2)
+
+  pub turned-away-exactly : (r : Refusal) → (ran book packet schedule words area ≡ NotRun r) ↔ TurnedAway book packet words area r
+  turned-away-exactly r = (
+    turned-away-was book packet schedule words area let-through-stops r,
+    turned-away-is book packet words area schedule r,
+  )
+
+  pub let-through : ((r : Refusal) → ran book packet schedule words area ≡ NotRun r → ⊥)
+      → Admitted book packet × (mostPackets * fieldsOf book ≤ words) × (areaWords ≤ area)
+  let-through = let-through-was book packet schedule words area let-through-stops

@@ -39,5 +39,6 @@ pub mod Stuck
 -- the answers
 pub mod Answering
 pub mod Runs
+pub mod Ends
 -- for the proofs of the code above
 pub mod Cycles

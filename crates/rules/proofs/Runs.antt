@@ -19,6 +19,17 @@ use Rattle.rules.proofs.Rooms.{live-room}
 use Rattle.rules.proofs.Stuck.{never-stuck}
 use Rattle.rules.proofs.Answering.{ran-admitted, evaluated-given}
 
+-- the answer of an unfinished run: its steps, and what is live and ready in the state reached
+abbrev pub progress : List ℕ → List ℕ → List ℕ → Ran
+progress book packet schedule =
+    let t = run (start book packet) schedule in Running (record { steps = length schedule; live = live t; ready = ready t })
+
+-- at least N choices finish
+pub at-finish : {book packet schedule : List ℕ} {a : Ran} → Stops book packet schedule a → stepsOf book packet ≤ length schedule
+    → a ≡ Finished (record { steps = stepsOf book packet; count = length (given book packet) })
+at-finish (finishes h e) l = e
+at-finish (goes-on h n m k r e) l = absurd (omega arith)
+
 module _ (book packet schedule : List ℕ) (words area : ℕ) (admitted : Admitted book packet)
     (fit : mostPackets * fieldsOf book ≤ words) (wide : areaWords ≤ area) (right : Right (mainOf book))
     (tests : Sub (tested (mainOf book)) (allFields (fieldsOf book)))
@@ -40,6 +51,17 @@ module _ (book packet schedule : List ℕ) (words area : ℕ) (admitted : Admitt
   by-ending (short h e r n) =
       goes-on h (live (run (start book packet) schedule)) (ready (run (start book packet) schedule))
       (live-room (startSpot book) (mainOf book) (startSet packet) schedule) r (ran-stopped ∙ rw (e, n))
+
+  -- fewer than N choices: a step for each, and a step ready in the state reached
+  by-short : Ending (startSpot book) (mainOf book) (startSet packet) schedule → length schedule < stepsOf book packet
+      → (ran book packet schedule words area ≡ progress book packet schedule) × (0 < ready (run (start book packet) schedule))
+  unfolding start finish
+  by-short (short h e r n) l = (ran-stopped ∙ rw (e, n), r)
+  by-short (enough h e n) l = absurd (omega arith)
+
+  pub runs-on : length schedule < stepsOf book packet
+      → (ran book packet schedule words area ≡ progress book packet schedule) × (0 < ready (run (start book packet) schedule))
+  runs-on = by-short (ending (startSpot book) (mainOf book) (startSet packet) schedule)
 
   pub stops : Stops book packet schedule (ran book packet schedule words area)
   stops = by-ending (ending (startSpot book) (mainOf book) (startSet packet) schedule)

@@ -12,3 +12,4 @@ pub mod States
 pub mod Fields
 pub mod Answers
 pub mod Promises
+pub mod Ends
