@@ -44,8 +44,10 @@ use Rattle.rules.proofs.Answering.{evaluated-given, not-given-keeps, no
 use Rattle.rules.proofs.Runs.{stops, at-finish, runs-on, same-words}
 use Rattle.rules.proofs.Ends.{LetThrough, turned-away-is, turned-away-was, let-through-was, words-front, words-others}
 use Rattle.rules.proofs.Ends.{finished-clears, running-clears, running-keeps}
--- the trials of document 01 marked *, the need of each condition of a right concurrent part, and the trap of pairing across packets
+-- the trials of document 01 marked *, every limit from both sides, the need of each condition of a right concurrent part, and the
+-- trap of pairing across packets
 pub use Rattle.rules.proofs.Trials.{starred}
+pub use Rattle.rules.proofs.Limits.{both-sides}
 pub use Rattle.rules.proofs.Counterexamples.{each-needed, trap}
 
 -- ---- Demand 1: any book, packet, schedule or buffer is answered. `verdict`, `evaluated` and `ran` are functions of all bytes, words

@@ -1,6 +1,7 @@
 -- What is shown of the definitions. `Demands` states the three demands; the other files are named for what they show.
 pub mod Demands
 pub mod Trials
+pub mod Limits
 pub mod Counterexamples
 -- masks, packets, order, sets
 pub mod Lists
