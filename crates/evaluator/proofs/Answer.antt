@@ -2,7 +2,6 @@
 -- given is exactly what the published meaning gives, ascending, at the front of the result, all other words kept (`published`).
 use Prim.Native.Nat.{ℕ, _+_, _*_, _≤_, _<_}
 use native.Mathlib.Omega.{arith}
-use native.Mathlib.Nat.{suc-mul}
 use mathlib.Core.Path.{_≡_, refl, sym, ap, _∙_}
 use mathlib.Core.Logic.{_↔_, inl, inr}
 use mathlib.Core.List.{List, [], _∷_, _++_, map}
@@ -22,6 +21,7 @@ use Rattle.rules.specs.Promises.{packetsGiven, EvaluateAnswer}
 use Rattle.rules.proofs.Bounds.{given as width-given}
 use Rattle.rules.proofs.Padding.{as-long}
 use Rattle.rules.proofs.Answering.{given-was}
+use Rattle.rules.proofs.Ends.{values-map, length-values}
 use Rattle.rules.proofs.Demands.{packets-exactly, packets-ascending, packets-determined}
 
 -- whatever two answers, with their buffers, meet the contract, they are the same
@@ -43,20 +43,6 @@ pub record Published (book packet before after : List ℕ) (o : Outcome) : Type 
   pub parts : o .parts ≡ parts (mainOf book)
   pub deep : o .deep ≡ deep (mainOf book)
   pub room : o .room ≡ room (mainOf book) (startSet packet)
-
--- ---- the words in the result
-
-values-map : (k : ℕ) (s : Packets) → valuesOf k (map (take k) s) ≡ valuesOf k s
-unfolding valuesOf
-values-map k [] = refl
-values-map k (x ∷ s) = let e : take k (take k x) ≡ take k x = take-take k k x (omega arith) in rw (e, values-map k s)
-
-length-values : (k : ℕ) (s : Packets) → ((b : Packet) → b ∈ s → length b ≡ k) → length (valuesOf k s) ≡ length s * k
-unfolding valuesOf
-length-values k [] h = omega arith
-length-values k (x ∷ s) h =
-    let e : length (take k x) ≡ k = ap length (take-all k x (omega (arith, h x (inl refl)))) ∙ h x (inl refl) in
-    simp (length-append, suc-mul) (omega (arith, e, length-values k s (λ b m. h b (inr m))))
 
 pub published : (book packet before after : List ℕ) (o : Outcome) → Bytes book
     → EvaluateAnswer book packet before (Given o) after

@@ -5,7 +5,7 @@ use mathlib.Core.Path.{_≡_, refl, sym, ap, _∙_}
 use mathlib.Core.Bool.{Bool, true, false, not}
 use mathlib.Core.List.{List, [], _∷_}
 use lib.Dec.{leb}
-use borrow.Author.Tests.{eq-eqb, ne-eqb, le-leb, lt-leb}
+use borrow.Author.Tests.{eq-eqb, le-leb}
 use lib.ListN.{length, replicate}
 use Rattle.rules.specs.declared.Refusal.{Refusal}
 use Rattle.rules.specs.declared.Refusal.the-variants.{PacketLength, Unpopulated, TooWide, Positions, BufferLength}
@@ -26,7 +26,7 @@ use Rattle.rules.specs.Answers.{resultRun, ranResult, areaRun, ranArea}
 use Rattle.rules.specs.Books.{Bytes}
 use Rattle.rules.specs.Promises.{Granted, Admitted, RunAnswer}
 use Rattle.rules.proofs.AcceptedBooks.{accepted-sizes, accepted-fields}
-use Rattle.rules.proofs.Answering.{given-was, ran-admitted, run-answer}
+use Rattle.rules.proofs.Answering.{given-was, ran-refused, ran-packet, ran-result, ran-area, ran-positions, ran-admitted, run-answer}
 use Rattle.machine.specs.Shown.{Stands, Readable, Playable}
 use Rattle.machine.specs.Answered.{GivenRoom, stopOf, wordsOf}
 use Rattle.machine.proofs.Reaching.{start-playable}
@@ -49,23 +49,18 @@ module _ (book packet schedule result work : List ℕ) where
   turned-away why e = run-answer e (rw (← e) refl) (rw (← e) refl)
 
   pub refused-book : (why : Refusal) (v : Verdict) → v ≡ verdict book → v ≡ Refused why → NotRun why ≡ answer
-  unfolding ran
-  refused-book why v e f = rw (sym e ∙ f) refl
+  refused-book why v e f = sym (ran-refused book packet schedule (length result) (length work) why (sym e ∙ f))
 
   module _ (z : Sizes) (v : verdict book ≡ Accepted z) where
     pub refused-packet : (length packet ≡ fieldsOf book → ⊥) → NotRun PacketLength ≡ answer
-    unfolding ran
-    refused-packet n = rw (v, ne-eqb (length packet) (fieldsOf book) n) refl
+    refused-packet n = sym (ran-packet book packet schedule (length result) (length work) z v n)
 
     module _ (k : length packet ≡ fieldsOf book) where
       pub refused-result : length result < 16 * fieldsOf book → NotRun BufferLength ≡ answer
-      unfolding ran
-      refused-result l = rw (v, eq-eqb (length packet) (fieldsOf book) k, lt-leb (16 * fieldsOf book) (length result) l) refl
+      refused-result l = sym (ran-result book packet schedule (length result) (length work) z v k l)
 
-      pub refused-area : 16 * fieldsOf book ≤ length result → length work < 21760 → NotRun BufferLength ≡ answer
-      unfolding ran
-      refused-area l a =
-          rw (v, eq-eqb (length packet) (fieldsOf book) k, le-leb (16 * fieldsOf book) (length result) l, lt-leb 21760 (length work) a) refl
+      pub refused-area : length work < 21760 → NotRun BufferLength ≡ answer
+      refused-area a = sym (ran-area book packet schedule (length result) (length work) z v k a)
 
       module _ (l : 16 * fieldsOf book ≤ length result) (a : 21760 ≤ length work) where
         -- 9 and 10 as the evaluator gives them
@@ -104,21 +99,12 @@ module _ (book packet schedule result work : List ℕ) where
       fits = rw (granted .words) at l
 
       pub short-area : length work < 21760 → NotRun BufferLength ≡ answer
-      short-area a = refused-area (granted .sizes) (granted .accepted) (granted .words) fits a
+      short-area a = refused-area (granted .sizes) (granted .accepted) (granted .words) a
 
       module _ (a : 21760 ≤ length work) where
         pub refused-positions : 160 < N → NotRun Positions ≡ answer
-        unfolding ran
         refused-positions h =
-            rw (
-              granted .accepted,
-              eq-eqb (length packet) (fieldsOf book) (granted .words),
-              le-leb (16 * fieldsOf book) (length result) fits,
-              le-leb 21760 (length work) a,
-              granted .populated,
-              le-leb (width (mainOf book) (startSet packet)) 16 (granted .narrow),
-              lt-leb (room (mainOf book) (startSet packet)) 160 (omega (arith, room-is)),
-            ) refl
+            sym (ran-positions book packet schedule (length result) (length work) fits a granted (omega (arith, room-is)))
 
         module _ (small : Bytes book) (h : N ≤ 160) where
           pub runs : Readable book × Stands book (bodyStart book 0) × Playable book (start book packet)

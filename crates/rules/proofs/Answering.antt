@@ -3,12 +3,12 @@ use Prim.Native.Nat.{ℕ, _*_, _≤_, _<_}
 use native.Mathlib.Omega.{arith}
 use mathlib.Core.Path.{_≡_, refl, sym, ap, _∙_}
 use mathlib.Core.Bool.{Bool, true, false, not, _&&_}
-use mathlib.Core.List.{List}
+use mathlib.Core.List.{List, _∷_}
 use lib.Dec.{leb, eqb}
 use lib.ListN.{length}
 use borrow.Author.Tests.{leb-true, le-leb, lt-leb, eqb-true, eq-eqb, ne-eqb, not-true}
 use Rattle.rules.specs.declared.Refusal.{Refusal}
-use Rattle.rules.specs.declared.Refusal.the-variants.{PacketLength, Unpopulated, TooWide, Positions, BufferLength}
+use Rattle.rules.specs.declared.Refusal.the-variants.{PacketLength, Unpopulated, TooWide, Positions, BufferLength, Stuck}
 use Rattle.rules.specs.declared.Sizes.{Sizes}
 use Rattle.rules.specs.declared.Verdict.{Verdict}
 use Rattle.rules.specs.declared.Verdict.the-variants.{Accepted, Refused}
@@ -187,6 +187,12 @@ pub ran-admitted : (book packet schedule : List ℕ) (words area : ℕ) → Admi
 ran-admitted book packet schedule words area a b w =
     ran-granted book packet schedule words area b w (a .granted)
     ∙ rw (le-leb (room (mainOf book) (startSet packet)) mostPositions (a .positions))
+
+-- 13 is the first stuck step's place; the typing shuts it out (`never-lacking`)
+pub ran-stuck : (book packet schedule : List ℕ) (words area : ℕ) → Admitted book packet → mostPackets * fieldsOf book ≤ words
+    → areaWords ≤ area → (at : ℕ) (l : List ℕ) → stuckIn (start book packet) schedule ≡ at ∷ l
+    → ran book packet schedule words area ≡ NotRun (Stuck at)
+ran-stuck book packet schedule words area a b w at l e = ran-admitted book packet schedule words area a b w ∙ rw e
 
 -- ---- "No refusal alters the result buffer or the working area"
 

@@ -16,7 +16,7 @@ use Rattle.rules.specs.Reading.{tablesFrom, policyOf, wrongBody, misfit,
 use Rattle.rules.specs.Reading.{sizesOf, verdict}
 use Rattle.rules.specs.Working.{each, out}
 use Rattle.rules.specs.States.{place, enter, finish, leave, next, move, used, lacking, stuckSteps, stuckIn}
-use Rattle.rules.specs.Answers.{Says, refusal, refusalSays, verdictSays}
+use Rattle.rules.specs.Answers.{Says, refusal, refusalSays, verdictSays, start}
 
 -- masks and sides of a concurrent part
 pub record Sides : Type 0 where
@@ -55,7 +55,7 @@ shown c = (
   verdictSays (verdict (bookOf (beside c))),
   out (beside c) five,
   out (Seq (c .p) (c .q)) five,
-  stuckIn (place (record { at = 6; fields = 1 }) (beside c) five) (0 ∷ 0 ∷ 0 ∷ []),
+  stuckIn (start (bookOf (beside c)) (5 ∷ [])) (0 ∷ 0 ∷ 0 ∷ []),
 )
 
 unfoldable pub lacking-one : List Sides
@@ -79,7 +79,7 @@ unfolding shown lacking-one sides conditions
     write parts deep tested written rightMasks fitMasks wrongs entries bytesOf masksFit
     byteIf stands operandFits readOperands readPart readBody bodyStart readEntry readEntries masksRight
     after built partAt bodyAt useAt mainOf tablesFrom policyOf wrongBody misfit wrongsIn misfitsIn typingFaults sizesOf verdict
-    each out place enter finish leave next move used lacking stuckSteps stuckIn refusalSays verdictSays
+    each out place enter finish leave next move used lacking stuckSteps stuckIn start refusalSays verdictSays
 each-needed = refl
 
 -- ---- the trap: "Pairing results across different packets, as the four-packet answer above"

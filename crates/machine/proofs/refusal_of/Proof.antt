@@ -53,8 +53,7 @@ returns-3 c =
     let e = sym (c .before .before .before .before .before .before .accept .ensures .is) ∙ v .given .1 in
     let f = fields-are (now a.book) (v .given .0 .0) e in
     refused-area (now a.book) (now a.packet) (now a.schedule) (now a.result) (now a.work) (v .given .0 .0) e
-    (c .before .before .if1 .left ∙ f .0)
-    (omega (arith, c .before .if2 .left, f .0)) (c .if3 .taken)
+    (c .before .before .if1 .left ∙ f .0) (c .if3 .taken)
 
 returns-4 : tie.Need-returns-4
 returns-4 c =
