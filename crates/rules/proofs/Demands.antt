@@ -42,8 +42,8 @@ use Rattle.rules.proofs.AcceptedBooks.{accepted-fields, accepted-formed
 use Rattle.rules.proofs.AcceptedBooks.{accepted-tested, accepted-written}
 use Rattle.rules.proofs.Answering.{evaluated-given, not-given-keeps, not-run-keeps}
 use Rattle.rules.proofs.Runs.{stops, at-finish, runs-on, same-words}
-use Rattle.rules.proofs.Ends.{LetThrough, turned-away-is, turned-away-was, let-through-was, words-front, words-others}
-use Rattle.rules.proofs.Ends.{finished-clears, running-clears, running-keeps}
+use Rattle.rules.proofs.Ends.{LetThrough, turned-away-is, turned-away-was, let-through-was, turned-numbers}
+use Rattle.rules.proofs.Ends.{words-front, words-others, finished-clears, running-clears, running-keeps}
 -- the trials of document 01 marked *, every limit from both sides, the need of each condition of a right concurrent part, and the
 -- trap of pairing across packets
 pub use Rattle.rules.proofs.Trials.{starred}
@@ -234,6 +234,9 @@ module _ (book packet schedule : List ℕ) (words area : ℕ) (bytes : Bytes boo
     turned-away-was book packet schedule words area let-through-stops r,
     turned-away-is book packet words area schedule r,
   )
+
+  pub never-thirteen : (r : Refusal) → ran book packet schedule words area ≡ NotRun r → numberOf r ≤ 12
+  never-thirteen r e = turned-numbers book packet words area r (turned-away-exactly r .0 e)
 
   pub let-through : ((r : Refusal) → ran book packet schedule words area ≡ NotRun r → ⊥)
       → Admitted book packet × (mostPackets * fieldsOf book ≤ words) × (areaWords ≤ area)
