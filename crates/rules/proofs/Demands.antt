@@ -34,9 +34,9 @@ use Rattle.rules.proofs.Lists.{All}
 use Rattle.rules.proofs.Serial.{serializes, commutes}
 use Rattle.rules.proofs.Padding.{as-long, words-exact, words-ascending, words-determined}
 use Rattle.rules.proofs.Schedules.{held-width}
-use Rattle.rules.proofs.Rooms.{live-room, room-reached}
+use Rattle.rules.proofs.Rooms.{live-room, room-reached as part-room-reached}
 use Rattle.rules.proofs.Bounds.{steps-bound}
-use Rattle.rules.proofs.Stuck.{never-stuck}
+use Rattle.rules.proofs.Stuck.{never-stuck as part-never-stuck}
 use Rattle.rules.proofs.Acceptance.{exactly, unique}
 use Rattle.rules.proofs.AcceptedBooks.{accepted-fields, accepted-formed, accepted-right, accepted-below}
 use Rattle.rules.proofs.AcceptedBooks.{accepted-tested, accepted-written}
@@ -201,10 +201,10 @@ module _ (book packet : List ℕ) (bytes : Bytes book) (admitted : Admitted book
   unfolding start
   room-enough = live-room (startSpot book) (mainOf book) (startSet packet)
 
-  pub room-needed : (schedule : List ℕ) × All (λ b. b < 256) schedule
+  pub room-reached : (schedule : List ℕ) × All (λ b. b < 256) schedule
       × (live (run (start book packet) schedule) ≡ room (mainOf book) (startSet packet))
   unfolding start
-  room-needed = room-reached (startSpot book) (mainOf book) (startSet packet) (omega (arith, admitted .positions))
+  room-reached = part-room-reached (startSpot book) (mainOf book) (startSet packet) 256 (omega (arith, admitted .positions))
 
   -- no position of any state holds more than 16 packets
   pub never-too-wide : (schedule : List ℕ) → held (run (start book packet) schedule) ≤ mostPackets
@@ -213,13 +213,13 @@ module _ (book packet : List ℕ) (bytes : Bytes book) (admitted : Admitted book
       omega (arith, held-width (startSpot book) (mainOf book) (startSet packet) schedule, admitted .granted .narrow)
 
   -- every position of every state has the fields in T and M of the part standing there, so no step is stuck
-  pub never-lacking : (schedule : List ℕ)
+  pub never-stuck : (schedule : List ℕ)
       → Has (startSpot book .fields) (mainOf book) (run (start book packet) schedule) × (stuckIn (start book packet) schedule ≡ [])
   unfolding start
-  never-lacking =
+  never-stuck =
       let z = admitted .granted .sizes in
       let a = admitted .granted .accepted in
-      never-stuck (startSpot book) (mainOf book) (accepted-right book z a bytes) (accepted-tested book z a bytes)
+      part-never-stuck (startSpot book) (mainOf book) (accepted-right book z a bytes) (accepted-tested book z a bytes)
       (accepted-written book z a bytes) (startSet packet)
 
 -- ---- when a run is turned away: exactly by the first number that applies, in document 01's order, whatever the schedule, and never

@@ -33,6 +33,7 @@ pub mod Measures
 pub mod Bounds
 pub mod Steps
 pub mod Schedules
+pub mod Ways
 pub mod Rooms
 pub mod Choose
 pub mod Everywhere
