@@ -1,5 +1,6 @@
 -- When each answer of the evaluator and of a run is given, and that nothing lent changes where a call is turned away.
 use Prim.Native.Nat.{ℕ, _*_, _≤_, _<_}
+use native.Mathlib.Decide.{decLe}
 use native.Mathlib.Omega.{arith}
 use mathlib.Core.Path.{_≡_, refl, sym, ap, _∙_}
 use mathlib.Core.Bool.{Bool, true, false, not, _&&_}
@@ -73,7 +74,23 @@ module _ (book packet : List ℕ) (words : ℕ) where
         le-leb (width (mainOf book) (startSet packet)) mostPackets (g .narrow),
       )
 
--- ---- and back: what was given was granted
+-- ---- and back: what was too wide has a width over 16, and what was given was granted
+
+wide-was : (book packet : List ℕ) (words : ℕ) → Dec (width (mainOf book) (startSet packet) ≤ mostPackets)
+    → (width (mainOf book) (startSet packet) ≤ mostPackets → evaluated book packet words ≡ Given (outcome book packet))
+    → evaluated book packet words ≡ NotGiven TooWide → mostPackets < width (mainOf book) (startSet packet)
+wide-was book packet words (yes h) g e =
+    let d : Given (outcome book packet) ≡ NotGiven TooWide = sym (g h) ∙ e in
+    let z : _≡_ {A = ℕ} 0 1 = cc in
+    absurd (omega arith)
+wide-was book packet words (no h) g e = omega (arith, h)
+
+pub too-wide-was : (book packet : List ℕ) (words : ℕ) (z : Sizes) → verdict book ≡ Accepted z → length packet ≡ fieldsOf book
+    → mostPackets * fieldsOf book ≤ words → namesOpen (mainOf book) ≡ false → evaluated book packet words ≡ NotGiven TooWide
+    → mostPackets < width (mainOf book) (startSet packet)
+too-wide-was book packet words z a l b n =
+    wide-was book packet words (decLe _ _)
+    (λ h. evaluated-given book packet words (record { sizes = z; accepted = a; words = l; populated = n; narrow = h }) b)
 
 else-was : (t : Bool) (r : Refusal) (e : Evaluated) (o : Outcome) → elseNotGiven t r e ≡ Given o → (t ≡ true) × (e ≡ Given o)
 else-was true r e o q = (refl, q)

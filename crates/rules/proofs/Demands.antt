@@ -3,7 +3,7 @@
 use Prim.Native.Nat.{ℕ, _*_, _^_, _≤_, _<_}
 use native.Mathlib.Omega.{arith}
 use mathlib.Core.Path.{_≡_, sym, _∙_}
-use mathlib.Core.Bool.{true}
+use mathlib.Core.Bool.{true, false}
 use mathlib.Core.Logic.{_↔_}
 use mathlib.Core.List.{List, [], map}
 use lib.Dec.{lit≤}
@@ -18,12 +18,12 @@ use Rattle.rules.specs.declared.Verdict.the-variants.{Accepted}
 use Rattle.rules.specs.declared.Evaluated.the-variants.{NotGiven}
 use Rattle.rules.specs.declared.Ran.the-variants.{NotRun}
 use Rattle.rules.specs.Packets.{Packet, Packets, mostPackets, Ascending, _∈_, valuesOf}
-use Rattle.rules.specs.Parts.{Part, Beside, parts, deep}
+use Rattle.rules.specs.Parts.{Part, Beside, parts, deep, namesOpen}
 use Rattle.rules.specs.Typing.{Right, rightBeside}
 use Rattle.rules.specs.Books.{Policy, writeBook, WellFormed, Book, Bytes}
 use Rattle.rules.specs.Reading.{fieldsOf, mainOf, verdict}
 use Rattle.rules.specs.Meaning.{Gives, Paired}
-use Rattle.rules.specs.Working.{room}
+use Rattle.rules.specs.Working.{room, width}
 use Rattle.rules.specs.States.{live, run, stuckIn, held}
 use Rattle.rules.specs.Answers.{numberOf, areaWords, startSet, startSpot, given, evaluated, evaluatedResult}
 use Rattle.rules.specs.Answers.{overwritten, start, ran, ranResult, ranArea}
@@ -35,12 +35,13 @@ use Rattle.rules.proofs.Serial.{serializes, commutes}
 use Rattle.rules.proofs.Padding.{as-long, words-exact, words-ascending, words-determined}
 use Rattle.rules.proofs.Schedules.{held-width}
 use Rattle.rules.proofs.Rooms.{live-room, room-reached as part-room-reached}
+use Rattle.rules.proofs.Widths.{width-reached as part-width-reached, width-over}
 use Rattle.rules.proofs.Bounds.{steps-bound}
 use Rattle.rules.proofs.Stuck.{never-stuck as part-never-stuck}
 use Rattle.rules.proofs.Acceptance.{exactly, unique}
 use Rattle.rules.proofs.AcceptedBooks.{accepted-fields, accepted-formed, accepted-right, accepted-below}
 use Rattle.rules.proofs.AcceptedBooks.{accepted-tested, accepted-written}
-use Rattle.rules.proofs.Answering.{evaluated-given, not-given-keeps, not-run-keeps}
+use Rattle.rules.proofs.Answering.{evaluated-given, evaluated-wide, too-wide-was, not-given-keeps, not-run-keeps}
 use Rattle.rules.proofs.Runs.{stops, at-finish, runs-on, same-words}
 use Rattle.rules.proofs.Ends.{LetThrough, turned-away-is, turned-away-was, let-through-was, turned-numbers}
 use Rattle.rules.proofs.Ends.{words-front, words-others, finished-clears, running-clears, running-keeps}
@@ -221,6 +222,24 @@ module _ (book packet : List ℕ) (bytes : Bytes book) (admitted : Admitted book
       let a = admitted .granted .accepted in
       part-never-stuck (startSpot book) (mainOf book) (accepted-right book z a bytes) (accepted-tested book z a bytes)
       (accepted-written book z a bytes) (startSet packet)
+
+-- the width is the most packets that a position of any state holds, whatever the book and the packet; with n 256 the choices are bytes
+pub width-reached : (book packet : List ℕ) (n : ℕ) → room (mainOf book) (startSet packet) ≤ n
+    → (schedule : List ℕ) × All (λ b. b < n) schedule
+    × (held (run (start book packet) schedule) ≡ width (mainOf book) (startSet packet))
+unfolding start
+width-reached book packet = part-width-reached (startSpot book) (mainOf book) (startSet packet)
+
+-- so 10 is exact: past 1 to 9 and 12 it is given if and only if some state that the steps reach has a position with over 16 packets.
+-- The choices are numbers of any size: where the room is over 256, bytes need not reach every state.
+pub ten-exactly : (book packet : List ℕ) (words : ℕ) (z : Sizes) → verdict book ≡ Accepted z → length packet ≡ fieldsOf book
+    → mostPackets * fieldsOf book ≤ words → namesOpen (mainOf book) ≡ false
+    → (evaluated book packet words ≡ NotGiven TooWide)
+    ↔ ((schedule : List ℕ) × (mostPackets < held (run (start book packet) schedule)))
+unfolding start
+ten-exactly book packet words z a l b n =
+    let w = width-over (startSpot book) (mainOf book) (startSet packet) mostPackets in
+    (λ e. w .0 (too-wide-was book packet words z a l b n e), λ r. evaluated-wide book packet words z a l b n (w .1 r))
 
 -- ---- when a run is turned away: exactly by the first number that applies, in document 01's order, whatever the schedule, and never
 -- by 13; what is not turned away is admitted, and its buffers are long enough

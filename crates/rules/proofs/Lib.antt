@@ -28,13 +28,14 @@ pub mod Frame
 pub mod Serial
 pub mod Exact
 pub mod Padding
--- the steps: every schedule, the room, the bound, never stuck
+-- the steps: every schedule, the room, the width, the bound, never stuck
 pub mod Measures
 pub mod Bounds
 pub mod Steps
 pub mod Schedules
 pub mod Ways
 pub mod Rooms
+pub mod Widths
 pub mod Choose
 pub mod Everywhere
 pub mod Stuck
