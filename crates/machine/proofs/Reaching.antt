@@ -16,7 +16,8 @@ use Rattle.rules.proofs.Lists.{All, none, also, all-append, all-map}
 use Rattle.rules.proofs.Sets.{union-ascending, gathered-ascending, keep-ascending, pairs-ascending}
 use Rattle.rules.proofs.Schedules.{run-keeps, held-width}
 use Rattle.rules.proofs.Rooms.{live-room}
-use Rattle.rules.proofs.Everywhere.{Inherited, Everywhere, run-everywhere}
+use Rattle.rules.specs.Places.{Everywhere}
+use Rattle.rules.proofs.Everywhere.{Inherited, run-everywhere}
 use Rattle.machine.specs.Shown.{Live, Placed, Done, Waiting, Negated, Both, flat, partOf, Stands, Readable, Fit, Playable}
 use Rattle.machine.proofs.Standing.{Found, Pair, below-not, below-sum, below-seq, below-beside, below-table}
 

@@ -28,6 +28,7 @@ use Rattle.rules.specs.States.{live, run, stuckIn, held}
 use Rattle.rules.specs.Answers.{numberOf, areaWords, startSet, startSpot, given, evaluated, evaluatedResult}
 use Rattle.rules.specs.Answers.{overwritten, start, ran, ranResult, ranArea}
 use Rattle.rules.specs.Fields.{Has}
+use Rattle.rules.specs.Places.{Everywhere, InPlace}
 use Rattle.rules.specs.Promises.{packetsGiven, Granted, Admitted, stepsOf, Stops}
 use Rattle.rules.specs.Ends.{TurnedAway, FinishedExactly, RunningExactly}
 use Rattle.rules.proofs.Lists.{All}
@@ -38,6 +39,7 @@ use Rattle.rules.proofs.Rooms.{live-room, room-reached as part-room-rea
 use Rattle.rules.proofs.Widths.{width-reached as part-width-reached, width-over}
 use Rattle.rules.proofs.Bounds.{steps-bound}
 use Rattle.rules.proofs.Stuck.{never-stuck as part-never-stuck}
+use Rattle.rules.proofs.Places.{in-place as book-in-place}
 use Rattle.rules.proofs.Acceptance.{exactly, unique}
 use Rattle.rules.proofs.AcceptedBooks.{accepted-fields, accepted-formed, accepted-right, accepted-below}
 use Rattle.rules.proofs.AcceptedBooks.{accepted-tested, accepted-written}
@@ -222,6 +224,10 @@ module _ (book packet : List ℕ) (bytes : Bytes book) (admitted : Admitted book
       let a = admitted .granted .accepted in
       part-never-stuck (startSpot book) (mainOf book) (accepted-right book z a bytes) (accepted-tested book z a bytes)
       (accepted-written book z a bytes) (startSet packet)
+
+  -- every part that stands or waits somewhere is written in the book from its position's place on: that is the place of its code byte
+  pub in-place : (schedule : List ℕ) → Everywhere (InPlace book) (run (start book packet) schedule)
+  in-place schedule = book-in-place book packet schedule (admitted .granted .sizes) (admitted .granted .accepted) bytes
 
 -- the width is the most packets that a position of any state holds, whatever the book and the packet; with n 256 the choices are bytes
 pub width-reached : (book packet : List ℕ) (n : ℕ) → room (mainOf book) (startSet packet) ≤ n

@@ -5,6 +5,7 @@ use Rattle.rules.specs.Packets.{Packets}
 use Rattle.rules.specs.Parts.{Part, Id, Drop, Test, Set, Not, Sum, Seq, Beside, Table, Open, size}
 use Rattle.rules.specs.States.{Spot, on, moved, losing, Join, Tree, placed, done, waiting, negated, both, place}
 use Rattle.rules.specs.States.{enter, finish, leave, next, run}
+use Rattle.rules.specs.Places.{Everywhere}
 use Rattle.rules.proofs.Lists.{All, none, also, all-append, all-map}
 use Rattle.rules.proofs.Schedules.{run-keeps}
 
@@ -16,14 +17,6 @@ pub record Inherited (Q : Spot → Part → Type 0) : Type 0 where
   pub sides : {o : Spot} {wp wq : ℕ} {p q : Part} → Q o (Beside wp wq p q)
       → Q (losing wq (on 3 o)) p × Q (losing wp (on (3 + size p) o)) q
   pub body : {o : Spot} {x r w start : ℕ} {p : Part} → Q o (Table x r w start p) → Q (moved start o) p
-
--- it holds of the part standing at each position, and of each that waits
-unfoldable pub Everywhere : (Spot → Part → Type 0) → Tree → Type 0
-Everywhere Q (placed o p s) = Q o p
-Everywhere Q (done s) = Unit {0}
-Everywhere Q (waiting t o q) = Everywhere Q t × Q o q
-Everywhere Q (negated k t) = Everywhere Q t
-Everywhere Q (both j t u) = Everywhere Q t × Everywhere Q u
 
 module _ (Q : Spot → Part → Type 0) (i : Inherited Q) where
   pub place-everywhere : (p : Part) (o : Spot) (s : Packets) → Q o p → Everywhere Q (place o p s)

@@ -29,7 +29,7 @@ pub no-uses : (C : Part → Type 0) (k m : ℕ) → OfUses C (scopeOf k m false)
 no-uses C k m h = absurd (false≢true h)
 
 -- what holds of a use of each table, from what holds of its entry
-each-at : (D : Entry → Type 0) (es : List Entry) (i : ℕ) → OfEach D es → i < length es → D (getD es i noEntry)
+pub each-at : (D : Entry → Type 0) (es : List Entry) (i : ℕ) → OfEach D es → i < length es → D (getD es i noEntry)
 each-at D [] i h l = absurd (omega arith)
 each-at D (e ∷ es) zero h l = h .0
 each-at D (e ∷ es) (suc i) h l = each-at D es i (h .1) (omega arith)

@@ -38,6 +38,7 @@ pub mod Rooms
 pub mod Widths
 pub mod Choose
 pub mod Everywhere
+pub mod Places
 pub mod Stuck
 -- the answers
 pub mod Answering

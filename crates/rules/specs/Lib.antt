@@ -10,6 +10,7 @@ pub mod Meaning
 pub mod Working
 pub mod States
 pub mod Fields
+pub mod Places
 pub mod Answers
 pub mod Promises
 pub mod Ends
