@@ -11,6 +11,7 @@ pub mod PacketLaws
 pub mod Orders
 pub mod Sets
 pub mod Lacked
+pub mod Below
 -- a book is accepted exactly if it is a right policy, written
 pub mod ReadingLaws
 pub mod Decoding
