@@ -3,6 +3,7 @@ pub mod Demands
 pub mod Trials
 pub mod Limits
 pub mod Counterexamples
+pub mod Examples
 -- masks, packets, order, sets
 pub mod Lists
 pub mod MaskLaws
