@@ -1,12 +1,14 @@
 -- By example, what no theorem about accepted books can fix: which steps would be stuck, in which order and at which places, left to
--- right and in the order of the run; and n with the bodies of tables counted under each use.
+-- right and in the order of the run; n with the bodies of tables counted under each use; and the largest set that a state holds.
 use Prim.Native.Nat.{ℕ}
 use mathlib.Core.Path.{_≡_, refl}
 use mathlib.Core.List.{List, [], _∷_, map}
+use lib.ListN.{replicate}
 use Rattle.rules.specs.Masks.{has, within, less}
-use Rattle.rules.specs.Packets.{passes, put, mix, orderOf, insert, union, keep, member, pairsInto}
+use Rattle.rules.specs.Packets.{Packets, passes, put, mix, orderOf, insert, union, keep, member, pairsInto}
 use Rattle.rules.specs.Parts.{Part, Id, Drop, Test, Set, Not, Sum, Seq, Beside, Table, Open, write, parts}
-use Rattle.rules.specs.States.{join, place, enter, finish, leave, next, move, used, lacking, stuckSteps, stuckIn}
+use Rattle.rules.specs.States.{entered, split, paired, placed, done, waiting, negated, both, join, place, enter, finish, leave, next}
+use Rattle.rules.specs.States.{move, used, lacking, stuckSteps, stuckIn, held}
 
 -- a part at place 6, in a position that has no field, on the packet (5, 9), under these choices: the places of its stuck steps
 abbrev pub Case : Type 0
@@ -43,3 +45,16 @@ pub parts-counted : map parts (
     ≡ 2 ∷ 1 ∷ 2 ∷ 11 ∷ 3 ∷ []
 unfolding parts
 parts-counted = refl
+
+-- the largest set at any position: standing, finished, below a sequence, kept by a negation or below it, on either side
+unfoldable pub setOf : ℕ → Packets
+setOf n = replicate n (5 ∷ 9 ∷ [])
+
+pub held-counted : map held (
+    placed (record { at = 6; fields = 3 }) Drop (setOf 2) ∷ done (setOf 3) ∷ waiting (done (setOf 3)) (record { at = 6; fields = 3 }) Id
+    ∷ negated (setOf 4) (done (setOf 1)) ∷ negated (setOf 1) (done (setOf 4)) ∷ both entered (done (setOf 5)) (done (setOf 2))
+    ∷ both (paired 1 2) (done (setOf 2)) (done (setOf 5)) ∷ both split (done []) (done []) ∷ []
+    )
+    ≡ 2 ∷ 3 ∷ 3 ∷ 4 ∷ 4 ∷ 5 ∷ 5 ∷ 0 ∷ []
+unfolding held setOf
+held-counted = refl
