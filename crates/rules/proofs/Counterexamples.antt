@@ -1,9 +1,10 @@
 -- Each of the five conditions of a right concurrent part is needed: five books that lack one alone, are refused with 7, and whose
--- concurrent part gives other packets than the sequence (all but one would be stuck besides). And the trap: pairing across packets.
+-- concurrent part gives other packets than the sequence (all but one would be stuck besides). And two traps: pairing across packets,
+-- and typing a table by its body.
 use Prim.Native.Nat.{ℕ}
 use mathlib.Core.Path.{_≡_, refl}
 use mathlib.Core.Bool.{Bool, true, false}
-use mathlib.Core.List.{List, [], _∷_, map}
+use mathlib.Core.List.{List, [], _∷_, _++_, map}
 use lib.ListN.{length}
 use Rattle.rules.specs.Masks.{has, apart, within, less}
 use Rattle.rules.specs.Packets.{Packets, padded, passes, put, mix, without, orderOf, insert, union, keep, member, pairsInto, pairs}
@@ -16,7 +17,7 @@ use Rattle.rules.specs.Reading.{tablesFrom, policyOf, wrongBody, misfit,
 use Rattle.rules.specs.Reading.{sizesOf, verdict}
 use Rattle.rules.specs.Working.{each, out}
 use Rattle.rules.specs.States.{place, enter, finish, leave, next, move, used, lacking, stuckSteps, stuckIn}
-use Rattle.rules.specs.Answers.{Says, refusal, refusalSays, verdictSays, start}
+use Rattle.rules.specs.Answers.{Says, refusal, accepted, refusalSays, verdictSays, start}
 
 -- masks and sides of a concurrent part
 pub record Sides : Type 0 where
@@ -95,3 +96,52 @@ pub trap : (out (Beside 1 2 Id Id) two ≡ two)
     × (across 1 2 Id Id two ≡ (0 ∷ 0 ∷ []) ∷ (0 ∷ 1 ∷ []) ∷ (1 ∷ 0 ∷ []) ∷ (1 ∷ 1 ∷ []) ∷ [])
 unfolding across has mix orderOf insert union pairsInto each out
 trap = (refl, refl)
+
+-- ---- the trap: "Typing a populated table by its body. The declared masks count, since the body can be replaced."
+
+-- a main body with its masks, and masks R and W of the one table; k = 2
+pub record Declares : Type 0 where
+  pub main : List ℕ
+  pub main-reads : ℕ
+  pub main-writes : ℕ
+  pub reads : ℕ
+  pub writes : ℕ
+
+unfoldable pub declares : List ℕ → ℕ → ℕ → ℕ → ℕ → Declares
+declares main mr mw r w = record { main = main; main-reads = mr; main-writes = mw; reads = r; writes = w }
+
+unfoldable pub bookWith : Declares → ℕ → ℕ → List ℕ → List ℕ
+bookWith c r w body =
+    2 ∷ 1 ∷ 0 ∷ length (c .main) ∷ c .main-reads ∷ c .main-writes ∷ 0 ∷ length body ∷ r ∷ w ∷ (c .main ++ body)
+
+-- what is said with the declared masks and the body id, with them and no body, and with empty masks and the body id
+unfoldable pub declared : Declares → Says × Says × Says
+declared c = (
+  verdictSays (verdict (bookWith c (c .reads) (c .writes) (0 ∷ []))),
+  verdictSays (verdict (bookWith c (c .reads) (c .writes) [])),
+  verdictSays (verdict (bookWith c 0 0 (0 ∷ []))),
+)
+
+-- a table that may read 0 beside a set of 0; one that may write 0 beside id; one that may read 0 and one that may write it alone,
+-- in a main policy that may not
+unfoldable pub declared-wider : List Declares
+declared-wider =
+    declares (7 ∷ 0 ∷ 1 ∷ 8 ∷ 1 ∷ 3 ∷ 0 ∷ 0 ∷ 1 ∷ []) 0 3 1 0
+    ∷ declares (7 ∷ 0 ∷ 2 ∷ 8 ∷ 1 ∷ 0 ∷ []) 0 3 0 1
+    ∷ declares (8 ∷ 1 ∷ []) 0 0 1 0
+    ∷ declares (8 ∷ 1 ∷ []) 1 0 0 1
+    ∷ []
+
+-- each table's body, id, neither tests nor writes; but its masks make the main body wrong, at its first byte, populated or not
+pub declared-counts : map declared declared-wider
+    ≡ (refusal 7 10, refusal 7 10, accepted 2 1 4 1)
+    ∷ (refusal 7 10, refusal 7 10, accepted 2 1 4 1)
+    ∷ (refusal 7 10, refusal 7 10, accepted 2 1 2 0)
+    ∷ (refusal 7 10, refusal 7 10, accepted 2 1 2 0)
+    ∷ []
+unfolding declares bookWith declared declared-wider
+    apart within parts deep write tested written rightMasks fitMasks wrongs entries bytesOf masksFit
+    byteIf stands operandFits readOperands readPart readBody bodyStart readEntry readEntries masksRight
+    after built partAt bodyAt useAt mainOf tablesFrom policyOf wrongBody misfit wrongsIn misfitsIn typingFaults sizesOf verdict
+    refusalSays verdictSays
+declared-counts = refl

@@ -48,12 +48,12 @@ pub data Named (x : ℕ) : Part → Type 0 where
 abbrev pub Names : Scope → (ℕ → Part) → Type 0
 Names c named = c .main ≡ true → (x : ℕ) → 0 < x → x ≤ c .tables → Named x (named x)
 
-named-written : (x : ℕ) (p : Part) → Named x p → write p ≡ 8 ∷ x ∷ []
+pub named-written : (x : ℕ) (p : Part) → Named x p → write p ≡ 8 ∷ x ∷ []
 unfolding write
 named-written x _ (populated r w start p) = refl
 named-written x _ (unpopulated r w) = refl
 
-named-fine : (c : Scope) (named : ℕ → Part) (d x : ℕ) (pred : Bool) (p : Part) → named x ≡ p → Named x p
+pub named-fine : (c : Scope) (named : ℕ → Part) (d x : ℕ) (pred : Bool) (p : Part) → named x ≡ p → Named x p
     → pred ≡ false → c .main ≡ true → 0 < x → x ≤ c .tables → Fine c named (suc d) pred p
 unfolding Fine
 named-fine c named d x pred _ e (populated r w start p) h m l u = (h, m, l, u, e)

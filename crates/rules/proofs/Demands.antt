@@ -3,9 +3,10 @@
 use Prim.Native.Nat.{ℕ, _*_, _^_, _≤_, _<_}
 use native.Mathlib.Omega.{arith}
 use mathlib.Core.Path.{_≡_, sym, _∙_}
-use mathlib.Core.Bool.{true, false}
+use mathlib.Core.Bool.{Bool, true, false}
 use mathlib.Core.Logic.{_↔_}
 use mathlib.Core.List.{List, [], map}
+use mathlib.Core.Option.{Option}
 use lib.Dec.{lit≤}
 use lib.ListN.{length, take, length-map}
 use Rattle.rules.specs.declared.Refusal.{Refusal}
@@ -19,8 +20,9 @@ use Rattle.rules.specs.declared.Evaluated.the-variants.{NotGiven}
 use Rattle.rules.specs.declared.Ran.the-variants.{NotRun}
 use Rattle.rules.specs.Packets.{Packet, Packets, mostPackets, Ascending, _∈_, valuesOf}
 use Rattle.rules.specs.Parts.{Part, Beside, parts, deep, namesOpen}
-use Rattle.rules.specs.Typing.{Right, rightBeside}
-use Rattle.rules.specs.Books.{Policy, writeBook, WellFormed, Book, Bytes}
+use Rattle.rules.specs.Typing.{Right, tested, written, rightBeside}
+use Rattle.rules.specs.Books.{Policy, writeBook, tableOf, Scope, Fine, WellFormed, Typed, Book, Bytes}
+use Rattle.rules.specs.Replacing.{bodyOf, rebound, replacedBody, TypedFor}
 use Rattle.rules.specs.Reading.{fieldsOf, mainOf, verdict}
 use Rattle.rules.specs.Meaning.{Gives, Paired}
 use Rattle.rules.specs.Working.{room, width}
@@ -41,17 +43,18 @@ use Rattle.rules.proofs.Bounds.{steps-bound}
 use Rattle.rules.proofs.Stuck.{never-stuck as part-never-stuck}
 use Rattle.rules.proofs.Places.{in-place as book-in-place}
 use Rattle.rules.proofs.Acceptance.{exactly, unique}
+use Rattle.rules.proofs.Replacing.{parts-kept, typing-kept}
 use Rattle.rules.proofs.AcceptedBooks.{accepted-fields, accepted-formed, accepted-right, accepted-below}
 use Rattle.rules.proofs.AcceptedBooks.{accepted-tested, accepted-written}
 use Rattle.rules.proofs.Answering.{evaluated-given, evaluated-wide, too-wide-was, not-given-keeps, not-run-keeps}
 use Rattle.rules.proofs.Runs.{stops, at-finish, runs-on, same-words}
 use Rattle.rules.proofs.Ends.{LetThrough, turned-away-is, turned-away-was, let-through-was, turned-numbers}
 use Rattle.rules.proofs.Ends.{words-front, words-others, finished-clears, running-clears, running-keeps}
--- the trials of document 01 marked *, every limit from both sides, the need of each condition of a right concurrent part, and the
--- trap of pairing across packets
+-- the trials of document 01 marked *, every limit from both sides, the need of each condition of a right concurrent part, the trap of
+-- pairing across packets, and that of typing a table by its body
 pub use Rattle.rules.proofs.Trials.{starred}
 pub use Rattle.rules.proofs.Limits.{both-sides}
-pub use Rattle.rules.proofs.Counterexamples.{each-needed, trap}
+pub use Rattle.rules.proofs.Counterexamples.{each-needed, trap, declared-counts}
 
 -- ---- Demand 1: any book, packet, schedule or buffer is answered. `verdict`, `evaluated` and `ran` are functions of all bytes, words
 -- and lengths, so there is an answer, and one. Bad input is refused by number, and a refusal changes nothing lent.
@@ -93,6 +96,18 @@ accepted-exactly = exactly
 
 pub policy-unique : (P Q : Policy) → WellFormed P → WellFormed Q → writeBook P ≡ writeBook Q → P ≡ Q
 policy-unique = unique
+
+-- "The declared masks count, since the body can be replaced": T and M of every part that uses tables of a policy are the same
+-- whichever body is put into a table, or none; and if the body that was there and the new one are right and fit, so is the typing
+pub masks-declared : (P : Policy) (x : ℕ) (body : Option Part) (c : Scope) (d : ℕ) (pred : Bool) (p : Part)
+    → Fine c (tableOf P) d pred p
+    → (tested (rebound (tableOf (replacedBody P x body)) p) ≡ tested p)
+    × (written (rebound (tableOf (replacedBody P x body)) p) ≡ written p)
+masks-declared = parts-kept
+
+pub typing-declared : (P : Policy) (x : ℕ) (body : Option Part) → WellFormed P → TypedFor P x (bodyOf P x) → TypedFor P x body
+    → Typed P ↔ Typed (replacedBody P x body)
+typing-declared = typing-kept
 
 module _ (book packet : List ℕ) (bytes : Bytes book) (granted : Granted book packet) where
   pub packets-exactly : (b : Packet) → (b ∈ packetsGiven book packet) ↔ Gives (mainOf book) packet b

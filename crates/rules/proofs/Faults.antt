@@ -50,7 +50,7 @@ module _ (c : Scope) (named : ℕ → Part) (uses : OfUses Right c named) where
   wrongs-right (suc d) pred at (Table x r w start p) f e = rw (f .4) at (uses (f .1) x (f .2) (f .3))
   wrongs-right (suc d) pred at (Open x r w) f e = tt
 
-right-wrongs : (at : ℕ) (p : Part) → Right p → wrongs at p ≡ []
+pub right-wrongs : (at : ℕ) (p : Part) → Right p → wrongs at p ≡ []
 unfolding wrongs
 right-wrongs at Id h = refl
 right-wrongs at Drop h = refl
@@ -66,7 +66,7 @@ right-wrongs at (Open x r w) h = refl
 -- ---- the bodies
 
 -- a body is right and fits its entry's masks
-abbrev TypedAs : Entry → Option Part → Type 0
+abbrev pub TypedAs : Entry → Option Part → Type 0
 TypedAs e b = OfBody (λ p. Right p × (fits (e .reads) (e .writes) p ≡ true)) b
 
 abbrev pub TypedBody : Entry → Type 0
@@ -116,6 +116,13 @@ right-use x start e = go (e .body)
     go none h = tt
     go (some p) h = (h .1, h .0)
 
+-- a fine main policy without a wrong part is right, where the tables' bodies are right and fit
+pub main-right : (P : Policy) → Fine (scopeOf (P .fields) (length (P .tables)) true) (tableOf P) mostDepth false (P .main)
+    → OfEach TypedBody (P .tables) → (at : ℕ) → wrongs at (P .main) ≡ [] → Right (P .main)
+main-right P f t at =
+    let c : Scope = scopeOf (P .fields) (length (P .tables)) true in
+    wrongs-right c (tableOf P) (of-tables Right TypedBody right-use P t) mostDepth false at (P .main) f
+
 module _ (P : Policy) (w : WellFormed P) where
   typed : typingFaults P ≡ [] → Typed P
   unfolding typingFaults entries wrongsIn misfitsIn wrongBody misfit
@@ -131,9 +138,7 @@ module _ (P : Policy) (w : WellFormed P) where
       let tables : OfEach TypedBody (P .tables)
       = typed-entries (FineBody k m) (λ i p g. wrongs-right (scopeOf k m false) noUse (no-uses Right k m) mostDepth false i p g)
       next (P .tables) (w .bodies) (a .1) (b .1) in
-      let uses : OfUses Right (scopeOf k m true) (tableOf P) = of-tables Right TypedBody right-use P tables in
-      let right : Right (P .main) = wrongs-right (scopeOf k m true) (tableOf P) uses mostDepth false at (P .main) (w .main) (a .0) in
-      ((right, fault-none (fits (P .reads) (P .writes) (P .main)) at (b .0)), tables)
+      ((main-right P (w .main) tables at (a .0), fault-none (fits (P .reads) (P .writes) (P .main)) at (b .0)), tables)
 
   pub faults : typingFaults P ≡ [] ↔ Typed P
   unfolding typingFaults

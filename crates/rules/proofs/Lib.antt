@@ -22,6 +22,7 @@ pub mod WrittenBytes
 pub mod FieldsBelow
 pub mod FineLaws
 pub mod Faults
+pub mod Replacing
 pub mod Acceptance
 pub mod AcceptedBooks
 -- the meaning: Lemma 5, and that the working gives exactly it

@@ -32,7 +32,7 @@ pub record Readable (s : List ℕ) : Type 0 where
 
 -- ---- what a use stands for
 
-use-named : (x r w start : ℕ) (b : Option Part) → Named x (useOf x r w start b)
+pub use-named : (x r w start : ℕ) (b : Option Part) → Named x (useOf x r w start b)
 use-named x r w start none = unpopulated r w
 use-named x r w start (some p) = populated r w start p
 

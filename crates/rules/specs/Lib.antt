@@ -5,6 +5,7 @@ pub mod Codes
 pub mod Parts
 pub mod Typing
 pub mod Books
+pub mod Replacing
 pub mod Reading
 pub mod Meaning
 pub mod Working
