@@ -4,6 +4,7 @@ pub mod Trials
 pub mod Limits
 pub mod Counterexamples
 pub mod Examples
+pub mod Edges
 -- masks, packets, order, sets
 pub mod Lists
 pub mod MaskLaws
