@@ -231,22 +231,15 @@ with-other (suc zero) b (e ∷ es) (suc i) h = refl
 with-other (suc (suc x)) b (e ∷ es) zero h = refl
 with-other (suc (suc x)) b (e ∷ es) (suc i) h = with-other (suc x) b es i (λ e. h (ap suc e))
 
--- what holds of every entry by its masks, and what holds of every body
-each-masks : (C : ℕ → ℕ → Type 0) (x : ℕ) (b : Option Part) (es : List Entry) → OfEach (λ e. C (e .reads) (e .writes)) es
-    → OfEach (λ e. C (e .reads) (e .writes)) (tablesWith x b es)
+-- what holds of every entry, and of an entry with the new body if it held with the old one
+each-with : (C : Entry → Type 0) (x : ℕ) (b : Option Part)
+    → ((e : Entry) → C e → C (record { reads = e .reads; writes = e .writes; body = b })) → (es : List Entry) → OfEach C es
+    → OfEach C (tablesWith x b es)
 unfolding tablesWith
-each-masks C zero b es h = h
-each-masks C (suc x) b [] h = h
-each-masks C (suc zero) b (e ∷ es) h = h
-each-masks C (suc (suc x)) b (e ∷ es) h = (h .0, each-masks C (suc x) b es (h .1))
-
-each-body : (C : Part → Type 0) (x : ℕ) (b : Option Part) (es : List Entry) → OfEach (λ e. OfBody C (e .body)) es → OfBody C b
-    → OfEach (λ e. OfBody C (e .body)) (tablesWith x b es)
-unfolding tablesWith
-each-body C zero b es h k = h
-each-body C (suc x) b [] h k = h
-each-body C (suc zero) b (e ∷ es) h k = (k, h .1)
-each-body C (suc (suc x)) b (e ∷ es) h k = (h .0, each-body C (suc x) b es (h .1) k)
+each-with C zero b f es h = h
+each-with C (suc x) b f [] h = h
+each-with C (suc zero) b f (e ∷ es) h = (f e (h .0), h .1)
+each-with C (suc (suc x)) b f (e ∷ es) h = (h .0, each-with C (suc x) b f es (h .1))
 
 -- the tables stay typed, and were typed
 typed-with : (i : ℕ) (b : Option Part) (es : List Entry) → OfEach TypedBody es → TypedAs (getD es i noEntry) b
@@ -263,11 +256,17 @@ typed-without i b [] h k = tt
 typed-without zero b (e ∷ es) h k = (k, h .1)
 typed-without (suc i) b (e ∷ es) h k = (h .0, typed-without i b es (h .1) k)
 
-tables-typed : (P : Policy) (x : ℕ) (b : Option Part) → TypedFor P x (bodyOf P x) → TypedFor P x b
-    → OfEach TypedBody (P .tables) ↔ OfEach TypedBody (tablesWith x b (P .tables))
+tables-typed : (P : Policy) (x : ℕ) (b : Option Part) → TypedFor P x b → OfEach TypedBody (P .tables)
+    → OfEach TypedBody (tablesWith x b (P .tables))
 unfolding entries tablesWith
-tables-typed P zero b old new = (λ t. t, λ t. t)
-tables-typed P (suc i) b old new = (λ t. typed-with i b (P .tables) t new, λ t. typed-without i b (P .tables) t old)
+tables-typed P zero b new t = t
+tables-typed P (suc i) b new t = typed-with i b (P .tables) t new
+
+tables-were : (P : Policy) (x : ℕ) (b : Option Part) → TypedFor P x (bodyOf P x) → OfEach TypedBody (tablesWith x b (P .tables))
+    → OfEach TypedBody (P .tables)
+unfolding entries tablesWith
+tables-were P zero b old t = t
+tables-were P (suc i) b old t = typed-without i b (P .tables) t old
 
 typed-main : (P : Policy) → Fine (scopeOf (P .fields) (length (P .tables)) true) (tableOf P) mostDepth false (P .main)
     → OfEach TypedBody (P .tables) → wrongs 0 (P .main) ≡ [] → fits (P .reads) (P .writes) (P .main) ≡ true → Typed P
@@ -366,16 +365,20 @@ module _ (P : Policy) (x : ℕ) (b : Option Part) where
         let m : SameMasks (Q .main) (P .main) = rw replaced-main (parts-kept scope mostDepth false (P .main) (formed .main)) in
         rw (m .0, m .1)
 
-    pub typing-kept : TypedFor P x (bodyOf P x) → TypedFor P x b → Typed P ↔ Typed Q
+    -- a typed policy stays typed with a new body that is right and fits, and was typed before if the old body is right and fits
+    pub replaced-typed : TypedFor P x b → Typed P → Typed Q
     unfolding replacedBody entries
-    typing-kept old new =
-        let tables = tables-typed P x b old new in (
-          λ t.
-              typed-main Q main-fine (tables .0 (t .1)) (main-wrongs 0 ∙ right-wrongs 0 (P .main) (t .0 .0)) (main-fits ∙ t .0 .1),
-          λ t.
-              typed-main P (formed .main) (tables .1 (t .1)) (sym (main-wrongs 0) ∙ right-wrongs 0 (Q .main) (t .0 .0))
-              (sym main-fits ∙ t .0 .1),
-        )
+    replaced-typed new t =
+        typed-main Q main-fine (tables-typed P x b new (t .1)) (main-wrongs 0 ∙ right-wrongs 0 (P .main) (t .0 .0)) (main-fits ∙ t .0 .1)
+
+    pub typed-before : TypedFor P x (bodyOf P x) → Typed Q → Typed P
+    unfolding replacedBody entries
+    typed-before old t =
+        typed-main P (formed .main) (tables-were P x b old (t .1)) (sym (main-wrongs 0) ∙ right-wrongs 0 (Q .main) (t .0 .0))
+        (sym main-fits ∙ t .0 .1)
+
+    pub typing-kept : TypedFor P x (bodyOf P x) → TypedFor P x b → Typed P ↔ Typed Q
+    typing-kept old new = (replaced-typed new, typed-before old)
 
     -- and the form, where the new body has it and the book does not grow too long
     pub replaced-formed : OfBody (FineBody (P .fields) (length (P .tables))) b → length (writeBook Q) ≤ mostBytes → WellFormed Q
@@ -386,8 +389,10 @@ module _ (P : Policy) (x : ℕ) (b : Option Part) where
       bytes = bytes;
       masks = (
         formed .masks .0,
-        each-masks (λ r w. masksFit (P .fields) r w ≡ true) x b (P .tables) (formed .masks .1),
+        each-with (λ e. masksFit (P .fields) (e .reads) (e .writes) ≡ true) x b (λ e h. h) (P .tables) (formed .masks .1),
       );
       main = main-fine;
-      bodies = rw tables-count (each-body (FineBody (P .fields) (length (P .tables))) x b (P .tables) (formed .bodies) new);
+      bodies =
+          let form = FineBody (P .fields) (length (P .tables)) in
+          rw tables-count (each-with (λ e. OfBody form (e .body)) x b (λ e h. new) (P .tables) (formed .bodies));
     }
