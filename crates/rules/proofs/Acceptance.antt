@@ -39,7 +39,7 @@ unless-fault-was [] v z q = (refl, q)
 unless-fault-was (a ∷ l) v z q = let x : _≡_ {A = ℕ} 0 1 = cc in absurd (omega arith)
 
 -- two bounds tested together
-bounds : (a b c d : ℕ) → a ≤ b → c ≤ d → (leb a b && leb c d) ≡ true
+pub bounds : (a b c d : ℕ) → a ≤ b → c ≤ d → (leb a b && leb c d) ≡ true
 bounds a b c d h k = rw (le-leb a b h) (le-leb c d k)
 
 -- what an accepting verdict has tested: 1 to 5, then 6, then 7

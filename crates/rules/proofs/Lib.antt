@@ -25,6 +25,7 @@ pub mod FineLaws
 pub mod Faults
 pub mod Replacing
 pub mod Acceptance
+pub mod Refusing
 pub mod AcceptedBooks
 -- the meaning: Lemma 5, and that the working gives exactly it
 pub mod TypingLaws
