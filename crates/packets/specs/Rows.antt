@@ -13,7 +13,7 @@ use Rattle.packets.specs.declared.Made.{Made}
 abbrev pub rows : PacketSet → Packets
 rows s = chunks (s .count) (s .values)
 
--- a set as it should be: the one `requires` of the operations
+-- a set as it should be: what every operation requires of each set that it is handed, and nothing else
 abbrev pub Whole : PacketSet → Type 0
 Whole s = Packed (s .values) (s .count)
 

@@ -1,13 +1,11 @@
 // Packet sets by value: at most 16 packets, ascending, no two equal (document 01, "Packets and sets").
-// What every operation gives is said on the list of its packets, in the words of the rules; the work is done on lent arrays, in `rows`.
-ghost use mathlib.Core.Path.{_≡_};
+// What every operation gives is said on the list of its packets, in the words of the rules; the work is done on lent arrays, in `sets`
+// and `rows`.
 ghost use mathlib.Core.List.{[], _∷_, map};
-ghost use lib.ListN.{getD, take, drop};
-ghost use Rattle.rules.specs.Packets.{Packets, passes, put, keep, insert, gathered, union, lacks, without, pairs, valuesOf};
+ghost use Rattle.rules.specs.Packets.{Packets, passes, put, keep, gathered, union, lacks, without, pairs, valuesOf};
 ghost use Rattle.rules.specs.Masks.{less};
 ghost use Rattle.rows.specs.Chunks.{Fits};
-ghost use Rattle.rows.specs.Arrays.{blank};
-ghost use Rattle.rows.specs.Areas.{wordsAt, pastedAt, Emitted};
+ghost use Rattle.rows.specs.Areas.{Emitted};
 ghost use Rattle.packets.specs.Rows.{rows, Whole, Is, Gives};
 
 // Packet i has the values 8 i to 8 i + 7; all after the last packet are 0. Bit f of the mask: the packets have field f.
@@ -66,19 +64,6 @@ pub fn one(p: [u16; 8], mask: u8) -> PacketSet
     }
 }
 
-// Packet i of the set, or zeros past the last.
-pub fn packet(s: PacketSet, i: usize) -> [u16; 8]
-    requires { ⌜ Whole s ⌝ }
-    ensures { λ r. ⌜ r ≡ getD (rows s) i blank ⌝ }
-{
-    if i < s.count {
-        let v = s.values;
-        rows::row(&v, i)
-    } else {
-        [0u16; 8]
-    }
-}
-
 // The packets that a test passes.
 pub fn test(s: PacketSet, f: usize, v: u16) -> PacketSet
     requires { ⌜ Whole s ⌝ }
@@ -92,29 +77,6 @@ pub fn test(s: PacketSet, f: usize, v: u16) -> PacketSet
         count: k,
         mask: s.mask,
     }
-}
-
-// The set with p in its place.
-pub fn insert(s: PacketSet, p: [u16; 8]) -> Made
-    requires { ⌜ Whole s ⌝ }
-    ensures { λ r. ⌜ Gives r (s .mask) (insert p (rows s)) ⌝ }
-{
-    let mut w = s.values;
-    let n = s.count;
-    let more = sets::insert_in(&mut w, n, p);
-    if 16 < more {
-        let e = empty(s.mask);
-        return Made {
-            fits: false,
-            set: e,
-        };
-    }
-    let r = PacketSet {
-        values: w,
-        count: more,
-        mask: s.mask,
-    };
-    Made { fits: true, set: r }
 }
 
 // The packets with a field set; what becomes equal is one.
@@ -196,63 +158,6 @@ pub fn pairs(a: PacketSet, b: PacketSet, w: u8, mask: u8) -> Made
     let mut v = [0u16; 128];
     let k = sets::pairs_into(&mut v, &x, n, &y, m, w);
     made_of(v, k, mask)
-}
-
-// The lowest packet of the set, if it has one.
-pub fn lowest(s: PacketSet) -> PacketSet
-    requires { ⌜ Whole s ⌝ }
-    ensures { λ r. ⌜ Is r (s .mask) (take 1 (rows s)) ⌝ }
-{
-    if 0 < s.count {
-        let v = s.values;
-        let p = rows::row(&v, 0);
-        one(p, s.mask)
-    } else {
-        s
-    }
-}
-
-// All but the lowest.
-pub fn rest(s: PacketSet) -> PacketSet
-    requires { ⌜ Whole s ⌝ }
-    ensures { λ r. ⌜ Is r (s .mask) (drop 1 (rows s)) ⌝ }
-{
-    let n = s.count;
-    let x = s.values;
-    let mut w = [0u16; 128];
-    let mut j = 1;
-    let mut k = 0;
-    while j < n {
-        let p = rows::row(&x, j);
-        rows::put_row(&mut w, k, p);
-        j += 1;
-        k += 1;
-    }
-    PacketSet {
-        values: w,
-        count: k,
-        mask: s.mask,
-    }
-}
-
-// The set whose 128 words stand at a place of a lent area; zeros where they are not all there.
-pub fn load(area: &[u16], at: usize, count: usize, mask: u8) -> PacketSet
-    ensures { λ r. ⌜ (r .values ≡ wordsAt (now (area .entry)) at) × (r .count ≡ count) × (r .mask ≡ mask) ⌝ }
-{
-    let values = rows::load_words(area, at);
-    PacketSet {
-        values,
-        count,
-        mask,
-    }
-}
-
-// The 128 words of a set put at a place of a lent area, if they fit there.
-pub fn store(area: &mut [u16], at: usize, s: PacketSet)
-    ensures { λ _. ⌜ now (area .exit) ≡ pastedAt (now (area .entry)) at (s .values) ⌝ }
-{
-    let v = s.values;
-    rows::store_words(area, at, &v);
 }
 
 // The first k values of each packet, one packet after the other, at the front of a lent slice, if they fit there.

@@ -1,6 +1,6 @@
 -- An array read as packets: laws of `chunks`, of eight reads or stores in a row, and of a packet put at a place.
 use Prim.Native.Nat.{ℕ, zero, suc, _+_, _*_, _≤_, _<_}
-use mathlib.Core.Path.{_≡_, refl, sym, ap, ap₂, _∙_}
+use mathlib.Core.Path.{_≡_, refl, ap, ap₂, _∙_}
 use mathlib.Core.List.{List, [], _∷_, _++_, append-assoc}
 use native.Mathlib.Omega.{arith}
 use native.Mathlib.Numerals.{add-one, towards-suc}
@@ -91,13 +91,6 @@ rows-at n v i h =
 
 pub rows-done : (n : ℕ) (v : List ℕ) (i : ℕ) → n ≤ i → drop i (chunks n v) ≡ []
 rows-done n v i h = let k : length (chunks n v) ≤ i = rw length-chunks h in drop-of-length-le (chunks n v) k
-
--- the first packet, if there is one
-pub rows-first : (n : ℕ) (v : List ℕ) → 0 < n → rowAt v 0 ∷ [] ≡ take 1 (chunks n v)
-rows-first n v h = sym (ap (λ (s : Packets). take 1 s) (rows-at n v 0 h))
-
-pub rows-none : (n : ℕ) (v : List ℕ) → n ≤ 0 → chunks n v ≡ take 1 (chunks n v)
-rows-none n v h = let e = rows-done n v 0 h in e ∙ sym (ap (λ (s : Packets). take 1 s) e)
 
 pub length-row : (v : List ℕ) (i : ℕ) → length v ≡ 128 → i < 16 → length (rowAt v i) ≡ 8
 length-row v i e h = simp (length-take, length-drop) (omega arith)

@@ -1,12 +1,12 @@
 -- What is known of an array that holds packets, and a loop that puts packets one after the other into an array of zeros.
 use Prim.Native.Nat.{ℕ, _+_, _*_, _-_, _≤_, _<_}
-use mathlib.Core.Path.{_≡_, refl, sym, ap, _∙_, subst}
+use mathlib.Core.Path.{_≡_, refl, sym, ap, _∙_}
 use mathlib.Core.List.{List, [], _∷_, _++_, append-nil}
 use native.Mathlib.Omega.{arith}
 use native.Mathlib.Decide.{decLt}
 use lib.ListN.{length, drop, replicate, length-append}
 use lib.Seq.{append-snoc}
-use Rattle.rules.specs.Packets.{Packet, Packets, Ascending}
+use Rattle.rules.specs.Packets.{Packets, Ascending}
 use Rattle.rows.specs.Chunks.{chunks, Packed, Held, Fits}
 use Rattle.rows.specs.Arrays.{putRow}
 use Rattle.rows.proofs.Chunks.{length-chunks, length-put, put-rows, put-rest, drop-replicate}
@@ -21,9 +21,6 @@ held-as k e = record { packed = k .packed; same = k .same ∙ e }
 
 pub held-count : {v : List ℕ} {n : ℕ} {s : Packets} → Held v n s → n ≡ length s
 held-count {v} {n} k = sym (length-chunks n v) ∙ ap length (k .same)
-
-pub held-ascending : {v : List ℕ} {n : ℕ} {s : Packets} → Held v n s → Ascending s
-held-ascending k = subst (λ (t : Packets). Ascending t) (k .same) (k .packed .order)
 
 pub held-few : {v : List ℕ} {n : ℕ} {s : Packets} → Held v n s → length s ≤ 16
 held-few k = omega (arith, held-count k, k .packed .room)

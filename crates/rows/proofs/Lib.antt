@@ -4,6 +4,5 @@ pub mod Fillings
 pub mod Clearing
 pub mod Mixing
 pub mod Comparing
-pub mod Lending
 pub mod Emitting
 pub mod Words

@@ -1,13 +1,13 @@
--- Packets fix an array to the last word: what an array's words are, and which words are those of packets.
+-- Packets fix an array to the last word: what an array's words are.
 use Prim.Native.Nat.{ℕ, zero, suc, _+_, _*_, _-_, _≤_}
 use mathlib.Core.Path.{_≡_, refl, sym, ap, _∙_, subst}
-use mathlib.Core.List.{List, _++_, append-assoc}
+use mathlib.Core.List.{List, _++_}
 use native.Mathlib.Omega.{arith}
-use lib.ListN.{length, take, drop, replicate, length-append, length-take, length-drop, length-replicate, take-append-drop}
-use lib.Seq.{take-all, take-at, drop-at, take-add, length-take-le}
-use Rattle.rules.specs.Packets.{Packet, Packets, Ascending, valuesOf}
+use lib.ListN.{length, take, drop, replicate, length-take, length-drop, take-append-drop}
+use lib.Seq.{take-all, take-add, length-take-le}
+use Rattle.rules.specs.Packets.{Packet, Packets, valuesOf}
 use Rattle.rules.proofs.Lists.{All, none, also}
-use Rattle.rows.specs.Chunks.{chunks, Held, wordsOf}
+use Rattle.rows.specs.Chunks.{chunks, Held}
 use Rattle.rows.proofs.Fillings.{held-count}
 
 -- a packet of eight values
@@ -29,28 +29,13 @@ values-chunks (suc n) v =
     let e : suc n * 8 ≡ 8 + n * 8 = omega arith in
     rw (take-all 8 (take 8 v) l, values-chunks n (drop 8 v), e) (sym (take-add 8 (n * 8) v))
 
-length-eight : {s : Packets} → All Eight s → length (valuesOf 8 s) ≡ length s * 8
-unfolding valuesOf
-length-eight none = refl
-length-eight (also {x} {xs = s} e a) =
-    let l : length x ≤ 8 = omega arith in
-    rw (take-all 8 x l, length-append, length-eight a) (omega arith)
-
-chunks-values : {s : Packets} → All Eight s → (z : List ℕ) → chunks (length s) (valuesOf 8 s ++ z) ≡ s
-unfolding valuesOf chunks
-chunks-values none z = refl
-chunks-values (also {x} {xs = s} e a) z =
-    let l : length x ≤ 8 = omega arith in
-    let y = valuesOf 8 s ++ z in
-    rw (take-all 8 x l, append-assoc x (valuesOf 8 s) z, take-at x y 8 e, drop-at x y 8 e, chunks-values a z)
-
 module _ {v : List ℕ} {n : ℕ} {s : Packets} (k : Held v n s) where
   pub held-eight : All Eight s
   held-eight =
       subst (λ (t : Packets). All Eight t) (k .same) (chunks-eight n v (omega (arith, k .packed .size, k .packed .room)))
 
-  pub held-values : v ≡ wordsOf s
-  unfolding wordsOf
+  -- eight values a packet, and zeros after the last
+  held-values : v ≡ valuesOf 8 s ++ replicate (128 - length s * 8) 0
   held-values =
       let e : valuesOf 8 s ≡ take (n * 8) v = ap (λ (t : Packets). valuesOf 8 t) (sym (k .same)) ∙ values-chunks n v in
       sym (take-append-drop (n * 8) v) ∙ rw (e, k .packed .zeros, held-count k)
@@ -58,19 +43,3 @@ module _ {v : List ℕ} {n : ℕ} {s : Packets} (k : Held v n s) where
 -- the packets fix the count and every word
 pub one-array : {v v′ : List ℕ} {n n′ : ℕ} {s : Packets} → Held v n s → Held v′ n′ s → (v ≡ v′) × (n ≡ n′)
 one-array k l = (held-values k ∙ sym (held-values l), held-count k ∙ sym (held-count l))
-
-pub words-held : (s : Packets) → Ascending s → length s ≤ 16 → All Eight s → Held (wordsOf s) (length s) s
-unfolding wordsOf
-words-held s h l a =
-    let z = replicate {A = ℕ} (128 - length s * 8) 0 in
-    let n = length-eight a in
-    let e = chunks-values a z in
-    record {
-      packed = record {
-        size = rw (length-append, n) (simp length-replicate (omega arith));
-        room = l;
-        zeros = drop-at (valuesOf 8 s) z (length s * 8) n;
-        order = rw e h;
-      };
-      same = e;
-    }

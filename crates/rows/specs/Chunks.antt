@@ -1,9 +1,9 @@
 -- An array of 128 values as the list of its packets, and what a function that changes one says of it.
 use Prim.Native.Nat.{ℕ, zero, suc, _*_, _-_, _≤_, _<_}
 use mathlib.Core.Path.{_≡_}
-use mathlib.Core.List.{List, [], _∷_, _++_}
+use mathlib.Core.List.{List, [], _∷_}
 use lib.ListN.{length, take, drop, replicate}
-use Rattle.rules.specs.Packets.{Packet, Packets, mostPackets, Ascending, valuesOf}
+use Rattle.rules.specs.Packets.{Packet, Packets, mostPackets, Ascending}
 
 -- the first n packets of an array, eight values each
 unfoldable pub chunks : ℕ → List ℕ → Packets
@@ -14,7 +14,7 @@ chunks (suc n) v = take 8 v ∷ chunks n (drop 8 v)
 abbrev pub rowAt : List ℕ → ℕ → Packet
 rowAt v i = take 8 (drop (i * 8) v)
 
--- an array of n packets, ascending, and zeros after them: the one `requires` of the operations
+-- an array of n packets, ascending, and zeros after them
 pub record Packed (v : List ℕ) (n : ℕ) : Type 0 where
   pub size : length v ≡ 128
   pub room : n ≤ 16
@@ -30,7 +30,3 @@ pub record Held (v : List ℕ) (n : ℕ) (s : Packets) : Type 0 where
 pub record Fits (v : List ℕ) (n : ℕ) (s : Packets) : Type 0 where
   pub held : length s ≤ mostPackets → Held v n s
   pub over : mostPackets < length s → (n ≡ 17) × Held v 0 []
-
--- the 128 words of an array: eight values a packet, and zeros after the last
-unfoldable pub wordsOf : Packets → List ℕ
-wordsOf s = valuesOf 8 s ++ replicate (128 - length s * 8) 0

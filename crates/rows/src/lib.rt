@@ -1,16 +1,16 @@
-// Packets of eight values, their order and their fields, and their places in lent arrays and areas (document 01, "Packets and sets").
-// Nothing above `sets` touches a place of an array.
+// Packets of eight values: compared, tested and mixed, read from and put to their places in arrays with room for 16, and
+// written to a result buffer (document 01, "Packets and sets").
 ghost use mathlib.Core.Path.{_≡_};
 ghost use mathlib.Core.Bool.{true, cond};
 ghost use mathlib.Core.List.{List, _++_};
 ghost use Prim.Native.Nat.{ℕ, _+_, _*_, _<_, _≤_};
 ghost use lib.Seq.{paste};
 ghost use lib.ListN.{length, take, drop};
-ghost use Rattle.rules.specs.Packets.{orderOf, passes, put, mix, without, valuesOf};
+ghost use Rattle.rules.specs.Packets.{orderOf, passes, mix, without, valuesOf};
 ghost use Rattle.rules.specs.Masks.{has};
 ghost use Rattle.rows.specs.Chunks.{chunks, rowAt, Packed};
 ghost use Rattle.rows.specs.Arrays.{eightAt, storedAt, putRow, cleared};
-ghost use Rattle.rows.specs.Areas.{within, wordsAt, pastedAt, Emitted};
+ghost use Rattle.rows.specs.Areas.{Emitted};
 use rules::Order;
 
 // The eight values at b.
@@ -93,29 +93,11 @@ pub fn order_at(p: &[u16], a: usize, q: &[u16], b: usize) -> Order
     Order::Same
 }
 
-// How p lies to q.
-pub fn compare(p: [u16; 8], q: [u16; 8]) -> Order
-    ensures { λ r. ⌜ r ≡ orderOf p q ⌝ }
-{
-    order_at(&p, 0, &q, 0)
-}
-
 // "test field = value" passes.
 pub fn passes(p: [u16; 8], f: usize, v: u16) -> bool
     ensures { λ r. ⌜ r ≡ passes f v p ⌝ }
 {
     if f < 8 { p[f] == v } else { 0 == v }
-}
-
-// "set field to value".
-pub fn put(p: [u16; 8], f: usize, v: u16) -> [u16; 8]
-    ensures { λ r. ⌜ r ≡ put f v p ⌝ }
-{
-    let mut r = p;
-    if f < 8 {
-        r[f] = v;
-    }
-    r
 }
 
 // The value of a field: y if the field is in w, else x.
@@ -149,32 +131,6 @@ pub fn bare(w: u8, p: [u16; 8]) -> [u16; 8]
     mix(w, p, [0u16; 8])
 }
 
-// A slice of this length has 128 words from a place on.
-fn holds(length: usize, at: usize) -> bool
-    ensures { λ r. ⌜ r ≡ within at length ⌝ }
-{
-    if length < at {
-        return false;
-    }
-    if length - at < 128 {
-        return false;
-    }
-    true
-}
-
-fn read128(area: &[u16], at: usize) -> [u16; 128]
-    requires { ⌜ at + 128 ≤ length (now area) ⌝ }
-    ensures { λ r. ⌜ r ≡ take 128 (drop at (now (area .entry))) ⌝ }
-{
-    let mut v = [0u16; 128];
-    let mut i = 0;
-    while i < 128 {
-        v[i] = area[at + i];
-        i += 1;
-    }
-    v
-}
-
 // The first k values of p put at a place.
 fn copy_in(out: &mut [u16], at: usize, p: &[u16], k: usize)
     requires { ⌜ (k ≤ length (now p)) × (at + k ≤ length (now out)) ⌝ }
@@ -184,27 +140,6 @@ fn copy_in(out: &mut [u16], at: usize, p: &[u16], k: usize)
     while f < k {
         out[at + f] = p[f];
         f += 1;
-    }
-}
-
-// The 128 words at a place of a lent area; zeros where they are not all there.
-pub fn load_words(area: &[u16], at: usize) -> [u16; 128]
-    ensures { λ r. ⌜ r ≡ wordsAt (now (area .entry)) at ⌝ }
-{
-    if holds(area.len(), at) {
-        read128(area, at)
-    } else {
-        [0u16; 128]
-    }
-}
-
-// The 128 words of an array put at a place of a lent area, if they fit there.
-pub fn store_words(area: &mut [u16], at: usize, v: &[u16; 128])
-    requires { ⌜ length (now v) ≡ 128 ⌝ }
-    ensures { λ _. ⌜ now (area .exit) ≡ pastedAt (now (area .entry)) at (now (v .entry)) ⌝ }
-{
-    if holds(area.len(), at) {
-        copy_in(area, at, v, 128);
     }
 }
 
