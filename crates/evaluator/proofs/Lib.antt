@@ -2,6 +2,5 @@ pub mod WorkLaws
 pub mod Decoder
 pub mod Down
 pub mod Opening
-pub mod Start
 pub mod Answering
 pub mod Answer

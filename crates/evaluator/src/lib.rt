@@ -8,10 +8,10 @@ use rules::Verdict;
 ghost use mathlib.Core.Path.{_≡_};
 ghost use mathlib.Core.Bool.{true, false};
 ghost use mathlib.Core.List.{List, [], _∷_};
-ghost use Prim.Native.Nat.{ℕ, _+_, _-_, _*_, _<_, _≤_, max};
+ghost use Prim.Native.Nat.{ℕ, _+_, _<_, _≤_, max};
 ghost use lib.ListN.{getD, length, drop};
 ghost use Rattle.rules.specs.declared.Verdict.the-variants.{Accepted};
-ghost use Rattle.rules.specs.Packets.{Packets, without, padded, keep, lacks};
+ghost use Rattle.rules.specs.Packets.{Packets, without, keep, lacks};
 ghost use Rattle.rules.specs.Parts.{Part, Drop, Not, Seq, Beside, Table, namesOpen};
 ghost use Rattle.rules.specs.Reading.{numberAt, after, useAt, partAt, mainOf, verdict};
 ghost use Rattle.rules.specs.Working.{out};
@@ -495,26 +495,12 @@ fn names_open(book: &[u8]) -> bool
     seen.found
 }
 
-// The words of a packet, and zeros after them.
-fn padded(packet: &[u16]) -> [u16; 8]
-    requires { ⌜ length (now packet) ≤ 8 ⌝ }
-    ensures { λ r. ⌜ r ≡ padded (now (packet .entry)) ⌝ }
-{
-    let mut p = [0u16; 8];
-    let mut i = 0;
-    while i < packet.len() {
-        p[i] = packet[i];
-        i += 1;
-    }
-    p
-}
-
 // The packet that comes in, put into an array of zeros.
 fn start_in(packet: &[u16], v: &mut [u16; 128])
     requires { ⌜ (length (now packet) ≤ 8) × Held (now v) 0 [] ⌝ }
     ensures { λ _. ⌜ Held (now (v .exit)) 1 (startSet (now (packet .entry))) ⌝ }
 {
-    rows::put_row(v, 0, padded(packet));
+    rows::put_row(v, 0, rows::padded(packet));
 }
 
 // One packet through an accepted book: 8, 12, 9, 10 in this order, or the packets in the result.

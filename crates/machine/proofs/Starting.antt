@@ -98,24 +98,6 @@ numbering-ends w v i n e =
     let o : order v ≡ down 160 = ap (λ (x : ℕ). drop x (order v)) (sym e) ∙ n .tail ∙ ap (λ (x : ℕ). down (160 - x)) e in
     record { sound = subst Wf (sym o) (down-sound 160 (omega arith)); kept = n .kept; long = n .long }
 
--- ---- the packet, filled up with zeros
-
-pub pad-turn : (packet v : List ℕ) (i : ℕ) → i < length packet → length packet ≤ 8 → v ≡ take i packet ++ replicate (8 - i) 0
-    → set v i (getD packet i 0) ≡ take (i + 1) packet ++ replicate (8 - (i + 1)) 0
-pad-turn p v i h l e =
-    let lt : length (take i p) ≡ i = length-take-le i p (omega arith) in
-    let z : 8 - i ≡ suc (8 - (i + 1)) = omega arith in
-    let R : List ℕ = replicate (8 - (i + 1)) 0 in
-    ap (λ (x : List ℕ). set x i (getD p i 0)) (e ∙ ap (λ (n : ℕ). take i p ++ replicate n 0) z)
-    ∙ set-at (take i p) 0 R (getD p i 0) i lt
-    ∙ sym (append-assoc (take i p) (getD p i 0 ∷ []) R)
-    ∙ ap (λ (x : List ℕ). x ++ R) (sym (ap (λ (n : ℕ). take n p) (add-one i) ∙ take-suc p i 0 h))
-
-pub pad-end : (packet v : List ℕ) (i : ℕ) → i ≡ length packet → v ≡ take i packet ++ replicate (8 - i) 0 → v ≡ padded packet
-unfolding padded
-pad-end p v i h e = e ∙ ap (λ (n : ℕ). take n p ++ replicate (8 - n) 0) h
-    ∙ ap (λ (l : List ℕ). l ++ replicate (8 - length p) 0) (lib.Seq.take-all (length p) p (omega arith))
-
 -- ---- the main policy placed
 
 module _ (s packet w v₀ v₁ v₂ : List ℕ) (at mask : ℕ) (S : PacketSet) (b : Readable s) (st : Stands s (bodyStart s 0))
@@ -155,6 +137,3 @@ module _ (s packet w v₀ v₁ v₂ : List ℕ) (at mask : ℕ) (S : PacketSet) 
         kept = k .becomes .kept ∙ n .kept;
         long = k .becomes .long ∙ n .long;
       }
-
-  pub start-place : bodyStart s 0 < 65536
-  start-place = omega (arith, inside st, b .short)

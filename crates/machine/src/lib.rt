@@ -843,20 +843,6 @@ fn number_slots(work: &mut [u16])
     }
 }
 
-// A packet's words, and zeros.
-fn pad(packet: &[u16]) -> [u16; 8]
-    requires { ⌜ length (now packet) ≤ 8 ⌝ }
-    ensures { λ r. ⌜ r ≡ padded (now (packet .entry)) ⌝ }
-{
-    let mut v = [0u16; 8];
-    let mut i: usize = 0;
-    while i < packet.len() {
-        v[i] = packet[i];
-        i += 1;
-    }
-    v
-}
-
 // The mask of the fields 0 to k - 1.
 fn all_fields(k: u8) -> u8
     requires { ⌜ k ≤ 8 ⌝ }
@@ -871,7 +857,7 @@ fn set_up(book: &[u8], packet: &[u16], work: &mut [u16]) -> usize
     requires { ⌜ (21760 ≤ length (now work)) × (length (now packet) ≤ 8) ⌝ }
     ensures { λ r. ⌜ Held (now (book .entry)) (now (work .entry)) (now (work .exit)) r (start (now (book .entry)) (now (packet .entry))) ⌝ }
 {
-    let p = pad(packet);
+    let p = rows::padded(packet);
     let mask = all_fields(book::byte_at(book, 0));
     let at = book::body_start(book, 0) as u16;
     number_slots(work);

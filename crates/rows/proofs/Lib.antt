@@ -2,6 +2,7 @@
 pub mod Chunks
 pub mod Fillings
 pub mod Clearing
+pub mod Padding
 pub mod Mixing
 pub mod Comparing
 pub mod Emitting

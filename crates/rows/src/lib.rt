@@ -1,4 +1,4 @@
-// Packets of eight values: compared, tested and mixed, read from and put to their places in arrays with room for 16, and
+// Packets of eight values: padded, compared, tested and mixed, read from and put to their places in arrays with room for 16, and
 // written to a result buffer (document 01, "Packets and sets").
 ghost use mathlib.Core.Path.{_≡_};
 ghost use mathlib.Core.Bool.{true, cond};
@@ -6,7 +6,7 @@ ghost use mathlib.Core.List.{List, _++_};
 ghost use Prim.Native.Nat.{ℕ, _+_, _*_, _<_, _≤_};
 ghost use lib.Seq.{paste};
 ghost use lib.ListN.{length, take, drop};
-ghost use Rattle.rules.specs.Packets.{orderOf, passes, mix, without, valuesOf};
+ghost use Rattle.rules.specs.Packets.{padded, orderOf, passes, mix, without, valuesOf};
 ghost use Rattle.rules.specs.Masks.{has};
 ghost use Rattle.rows.specs.Chunks.{chunks, rowAt, Packed};
 ghost use Rattle.rows.specs.Arrays.{eightAt, storedAt, putRow, cleared};
@@ -59,6 +59,20 @@ pub fn put_row(w: &mut [u16; 128], k: usize, p: [u16; 8])
     ensures { λ _. ⌜ now (w .exit) ≡ putRow (now (w .entry)) k p ⌝ }
 {
     write8(w, k * 8, p);
+}
+
+// The words of a packet that comes in, and zeros after them.
+pub fn padded(packet: &[u16]) -> [u16; 8]
+    requires { ⌜ length (now packet) ≤ 8 ⌝ }
+    ensures { λ r. ⌜ r ≡ padded (now (packet .entry)) ⌝ }
+{
+    let mut p = [0u16; 8];
+    let mut i = 0;
+    while i < packet.len() {
+        p[i] = packet[i];
+        i += 1;
+    }
+    p
 }
 
 // Zeros for packets k to n - 1.

@@ -8,8 +8,8 @@ use Rattle.rules.specs.Masks.{allFields}
 use Rattle.machine.proofs.set_up.Statement.{statement}
 use Rattle.machine.proofs.set_up.Tie as tie
 
-pad-requires : tie.Need-pad-requires
-pad-requires c κs = search needs
+padded-requires : tie.Need-padded-requires
+padded-requires c κs = search needs
 
 byte-at-requires : tie.Need-byte-at-requires
 byte-at-requires c κs = search needs
@@ -65,12 +65,12 @@ settle-requires c κs =
     let one = c .before .before .before .before .before .before .before .before .one in
     let byte-at = c .before .before .before .before .before .before .before .before .before .before .before .before .before .before .before
     .before .byte-at in
-    let pad = c .before .before .before .before .before .before .before .before .before .before .before .before .before .before .before
-    .before .before .pad in
+    let padded = c .before .before .before .before .before .before .before .before .before .before .before .before .before .before .before
+    .before .before .padded in
     start-stands (now a.book) (now a.packet) (now a.work) (number-slots .last .0) (put-set .last .0) (mark .last .0) (body-start .result)
     (all-fields .result) (one .result) (s .pre .0 .0) (s .pre .0 .1) (s .pre .0 .2) (s .pre .1 .0) (number-slots .ensures)
     (body-start .ensures .0)
-    (all-fields .ensures ∙ ap allFields (byte-at .ensures)) (all-fields .result) (rw (pad .ensures) at (one .ensures)) (put-set .ensures)
+    (all-fields .ensures ∙ ap allFields (byte-at .ensures)) (all-fields .result) (rw (padded .ensures) at (one .ensures)) (put-set .ensures)
     (mark .ensures)
 
 same-length : tie.Need-same-length
@@ -98,13 +98,13 @@ returns c =
     let one = c .before .before .before .before .before .before .before .before .before .before .before .one in
     let byte-at = c .before .before .before .before .before .before .before .before .before .before .before .before .before .before .before
     .before .before .before .before .byte-at in
-    let pad = c .before .before .before .before .before .before .before .before .before .before .before .before .before .before .before
-    .before .before .before .before .before .pad in
+    let padded = c .before .before .before .before .before .before .before .before .before .before .before .before .before .before .before
+    .before .before .before .before .before .padded in
     let settle = c .before .before .settle in
     started (now a.book) (now a.packet) (now a.work) (number-slots .last .0) (put-set .last .0) (mark .last .0) (body-start .result)
     (all-fields .result) (one .result) (s .pre .0 .0) (s .pre .0 .1) (s .pre .0 .2) (s .pre .1 .0) (number-slots .ensures)
     (body-start .ensures .0)
-    (all-fields .ensures ∙ ap allFields (byte-at .ensures)) (all-fields .result) (rw (pad .ensures) at (one .ensures)) (put-set .ensures)
+    (all-fields .ensures ∙ ap allFields (byte-at .ensures)) (all-fields .result) (rw (padded .ensures) at (one .ensures)) (put-set .ensures)
     (mark .ensures)
     (settle .last .1 .0) (settle .result) (settle .ensures)
 
@@ -112,7 +112,7 @@ pub set-up-spec : {M : Type 1} → statement M
 set-up-spec =
     tie.close
     (tie.spec
-    pad-requires
+    padded-requires
     byte-at-requires
     all-fields-requires
     body-start-requires

@@ -4,9 +4,9 @@ use mathlib.Core.Path.{_≡_, refl}
 use mathlib.Core.List.{_++_}
 use Prim.Native.Nat.{_-_, _≤_}
 use lib.ListN.{length, take, replicate}
-use Rattle.evaluator.proofs.Start.{padded-next, padded-end}
-use Rattle.evaluator.proofs.padded.Statement.{statement}
-use Rattle.evaluator.proofs.padded.Tie as tie
+use Rattle.rows.proofs.Padding.{padded-next, padded-end}
+use Rattle.rows.proofs.padded.Statement.{statement}
+use Rattle.rows.proofs.padded.Tie as tie
 
 abbrev Inv-loop : tie.InvT-loop
 Inv-loop packet p₀ i₀ p i = (i ≤ length packet) × (p ≡ take i packet ++ replicate (8 - i) 0)

@@ -1,4 +1,4 @@
--- The packet that evaluation starts from: its words with zeros after them.
+-- The words of a packet with zeros after them, copied word by word.
 use Prim.Native.Nat.{ℕ, suc, _+_, _-_, _≤_, _<_}
 use native.Mathlib.Omega.{arith}
 use native.Mathlib.Numerals.{add-one}
@@ -8,7 +8,6 @@ use lib.ListN.{length, getD, set, take, replicate}
 use lib.Seq.{take-all, take-suc, set-at, length-take-le, append-snoc}
 use Rattle.rules.specs.Packets.{padded}
 
--- word by word
 pub padded-next : (l p : List ℕ) (i : ℕ) → length l ≤ 8 → i < length l → p ≡ take i l ++ replicate (8 - i) 0
     → set p i (getD l i 0) ≡ take (i + 1) l ++ replicate (8 - (i + 1)) 0
 padded-next l p i few h e =
