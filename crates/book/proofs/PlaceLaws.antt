@@ -56,9 +56,6 @@ module _ (s : List ℕ) (d at : ℕ) (hd : d ≡ 0 → ⊥) (h : at < length s) 
       en ∙ rw em (sym (after-suc ∙ rw e))
 
 -- where a body starts
-pub length-is : (s : List ℕ) (x a b : ℕ) → a ≡ getD s (2 + 4 * x) 0 → b ≡ getD s (2 + 4 * x + 1) 0 → a * 256 + b ≡ lengthAt s x
-length-is s x a b ea eb = rw (ea, eb)
-
 pub start-zero : (s : List ℕ) (b : ℕ) → b ≡ getD s 1 0 → 6 + 4 * b ≡ bodyStart s 0
 unfolding bodyStart
 start-zero s b e = rw e

@@ -20,9 +20,6 @@ pub length-slots : (w : List ℕ) → length (slots w) ≡ 160
 unfolding slots
 length-slots w = length-blocks 128 160 (drop 1280 w)
 
-pub now-same : (w : List ℕ) → Now w w (heads w) (slots w)
-now-same w = record { heads = refl; slots = refl; kept = refl; long = refl }
-
 pub now-then : {w v u : List ℕ} {H S K T : List (List ℕ)} → Now w v H S → Now v u K T → Now w u K T
 now-then p q = record { heads = q .heads; slots = q .slots; kept = q .kept ∙ p .kept; long = q .long ∙ p .long }
 
@@ -40,17 +37,6 @@ word-at w i j h l = ap (λ (b : List ℕ). getD b j 0) (head-at w i h) ∙ getD-
 pub slot-at : (w : List ℕ) (s : ℕ) → s < 160 → getD (slots w) s [] ≡ take 128 (drop (1280 + s * 128) w)
 unfolding slots
 slot-at w s h = getD-blocks 128 s 160 (drop 1280 w) h ∙ ap (take 128) (drop-drop (s * 128) 1280 w)
-
--- one header word written
-pub set-word : (w : List ℕ) (i j x : ℕ) → i < 160 → j < 8 → 21760 ≤ length w
-    → Now w (set w (i * 8 + j) x) (set (heads w) i (set (getD (heads w) i []) j x)) (slots w)
-unfolding heads slots
-set-word w i j x h l room = record {
-  heads = set-blocks 8 i 160 j w x h l;
-  slots = ap (blocks 128 160) (drop-set-lt 1280 w (i * 8 + j) x (omega arith));
-  kept = drop-set-lt 21760 w (i * 8 + j) x (omega arith);
-  long = length-set w (i * 8 + j) x;
-}
 
 -- words pasted among the headers
 drop-past : (w : List ℕ) (at : ℕ) (s : List ℕ) (n k : ℕ) → at + n ≤ length w → n ≤ length s → at + n ≤ k

@@ -44,9 +44,6 @@ module _ (o : Spot) (wp wq : ℕ) (p q : Part) where
   enter-more (x ∷ (y ∷ S)) e = refl
 
 module _ (s w : List ℕ) (live i : ℕ) (h : Entering s w live i 7) where
-  abbrev place₁ : ℕ
-  place₁ = here w i .place
-
   abbrev wp : ℕ
   wp = getD s (here w i .place + 1) 0
 

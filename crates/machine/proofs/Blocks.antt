@@ -53,21 +53,6 @@ module _ {A : Type 0} where
   getD-blocks S zero (suc n) w h = ap (λ (k : ℕ). take S (drop k w)) (sym (zero-mul S))
   getD-blocks S (suc i) (suc n) w h = getD-blocks S i n (drop S w) (omega arith) ∙ ap (take S) (drop-suc-mul S i w)
 
-  -- a write in one block
-  pub set-blocks : (S i n j : ℕ) (w : List A) (v : A) → i < n → j < S
-      → blocks S n (set w (i * S + j) v) ≡ set (blocks S n w) i (set (getD (blocks S n w) i []) j v)
-  set-blocks S i zero j w v h l = absurd (omega arith)
-  set-blocks S zero (suc n) j w v h l =
-      ap (λ (k : ℕ). blocks S (suc n) (set w k v)) (ap (λ (k : ℕ). k + j) (zero-mul S) ∙ zero-add j)
-      ∙ ap (λ (b : List A). b ∷ blocks S n (drop S (set w j v))) (take-set-lt S w j v l)
-      ∙ ap (λ (r : List A). set (take S w) j v ∷ blocks S n r) (drop-set-lt S w j v l)
-  set-blocks S (suc i) (suc n) j w v h l =
-      let e : suc i * S + j ≡ S + (i * S + j) = omega (arith, suc-mul i S) in
-      ap (λ (k : ℕ). blocks S (suc n) (set w k v)) e
-      ∙ ap (λ (b : List A). b ∷ blocks S n (drop S (set w (S + (i * S + j)) v))) (take-set-le S w (S + (i * S + j)) v (omega arith))
-      ∙ ap (λ (r : List A). take S w ∷ blocks S n r) (drop-set-add S w (i * S + j) v)
-      ∙ ap (λ (r : List (List A)). take S w ∷ r) (set-blocks S i n j (drop S w) v (omega arith) l)
-
   -- a words' move of whole blocks
   pub blocks-paste : (S a m : ℕ) (w s : List A) → a * S ≤ length w → m * S ≤ length s
       → blocks S (a + m) (paste w (a * S) s (m * S)) ≡ blocks S a w ++ blocks S m s
@@ -165,10 +150,6 @@ module _ {A : Type 0} where
 
   pub moved-none : (w : List A) (from to n : ℕ) → n ≡ 0 → w ≡ moved w from to n
   moved-none w from to n e = paste-zero w to (drop from w) ∙ ap (moved w from to) (sym e)
-
-  pub length-moved : (w : List A) (from to n : ℕ) → from + n ≤ length w → to + n ≤ length w → length (moved w from to n) ≡ length w
-  length-moved w from to n h l = let e : length (drop from w)
-      ≡ length w - from = length-drop from w in length-paste w to (drop from w) n l (omega arith)
 
   -- from the last word down: the words from j on have been moved, and now the one before them
   pub up-turn : (w v : List A) (from to n j j′ : ℕ) (d : A) → from ≤ to → to + n ≤ length w → j ≤ n → j ≡ suc j′

@@ -52,10 +52,6 @@ module _ {X Y : Type 0} where
   rd-alike ones a = fin-alike a
   rd-alike twos a = rw (fin-alike a, fin-alike (tl-alike a))
 
-  pub rdL-alike : {ns : List (Node X)} {ms : List (Node Y)} → AllAlike ns ms → rdL ns ≡ rdL ms
-  rdL-alike none = refl
-  rdL-alike (also k a) = rd-alike k a
-
   pub count-alike : {ns : List (Node X)} {ms : List (Node Y)} → AllAlike ns ms → count ns ≡ count ms
   count-alike none = refl
   count-alike (also k a) = rw (rd-alike k a, count-alike a)

@@ -42,14 +42,6 @@ scope s main = scopeOf (fieldsOf s) (tablesOf s) main
 
 -- what a fine part says of its operands
 module _ (c : Scope) (n : ℕ → Part) (d : ℕ) (pred : Bool) where
-  fine-test : (f v : ℕ) → Fine c n (suc d) pred (Test f v) → f < c .fields
-  unfolding Fine
-  fine-test f v h = h .0
-
-  fine-set : (f v : ℕ) → Fine c n (suc d) pred (Set f v) → f < c .fields
-  unfolding Fine
-  fine-set f v h = h .1
-
   fine-table : (x r w start : ℕ) (p : Part) → Fine c n (suc d) pred (Table x r w start p)
       → (0 < x) × (x ≤ c .tables) × (n x ≡ Table x r w start p)
   unfolding Fine
@@ -112,12 +104,6 @@ module _ {s : List ℕ} {at : ℕ} (h : Stands s at) where
 
   closed-as : (p : Part) → partOf s at ≡ p → namesOpen p ≡ false
   closed-as p e = rw e at (h .closed)
-
-  pub below-test : (f v : ℕ) → partOf s at ≡ Test f v → f < fieldsOf s
-  below-test f v e = fine-test (scope s (h .main)) (useAt s) 31 (h .pred) f v (fine-as (Test f v) e)
-
-  pub below-set : (f v : ℕ) → partOf s at ≡ Set f v → f < fieldsOf s
-  below-set f v e = fine-set (scope s (h .main)) (useAt s) 31 (h .pred) f v (fine-as (Set f v) e)
 
   pub below-not : (p : Part) → partOf s at ≡ Not p → Found s (at + 1) p
   unfolding namesOpen

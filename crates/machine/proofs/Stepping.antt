@@ -78,9 +78,6 @@ fin-there w live j l e =
     ]
 
 module _ (s w : List ℕ) (live i : ℕ) (h : Stepping s w live i) where
-  abbrev x₀ : Pos
-  x₀ = here w i
-
   ready-is : rdK (here w i .phase) (fin (drop (i + 1) (marks w live))) (fin (drop (i + 2) (marks w live))) ≡ true
   ready-is =
       rw (phase-from w i (omega (arith, h .there, h .few))) at (sym (rd-at w live (h .few) i (h .there)) ∙ h .ready)

@@ -24,35 +24,6 @@ module _ {X : Type 0} where
   flat (tone x t) = one x ∷ flat t
   flat (ttwo x t u) = two x ∷ (flat t ++ flat u)
 
-  -- the trees that a list of nodes holds, one after the other: a right fold
-  abbrev pub push : Node X → List (Tree X) → List (Tree X)
-  push (rest x) ts = trest x ∷ ts
-  push (done x) ts = tdone x ∷ ts
-  push (one x) [] = []
-  push (one x) (t ∷ ts) = tone x t ∷ ts
-  push (two x) [] = []
-  push (two x) (t ∷ []) = []
-  push (two x) (t ∷ u ∷ ts) = ttwo x t u ∷ ts
-
-  abbrev pub build : List (Node X) → List (Tree X)
-  build [] = []
-  build (n ∷ ns) = push n (build ns)
-
-  pub build-flat : (t : Tree X) (r : List (Node X)) → build (flat t ++ r) ≡ t ∷ build r
-  build-flat (trest x) r = refl
-  build-flat (tdone x) r = refl
-  build-flat (tone x t) r = ap (push (one x)) (build-flat t r)
-  build-flat (ttwo x t u) r =
-      ap (push (two x)) (ap build (append-assoc (flat t) (flat u) r) ∙ build-flat t (flat u ++ r)
-      ∙ ap (λ (ts : List (Tree X)). t ∷ ts) (build-flat u r))
-
-  pub flat-inj : (t u : Tree X) → flat t ≡ flat u → t ≡ u
-  flat-inj t u e =
-      let a : build (flat t) ≡ t ∷ [] = ap build (sym (append-nil (flat t))) ∙ build-flat t [] in
-      let b : build (flat u) ≡ u ∷ [] = ap build (sym (append-nil (flat u))) ∙ build-flat u [] in
-      let c : build (flat t) ≡ build (flat u) = ap build e in
-      cc
-
   -- readiness, in the tree
   abbrev pub finT : Tree X → Bool
   finT (trest x) = false
@@ -233,10 +204,3 @@ module _ {X : Type 0} (f : Tree X → Tree X) (g : List (Node X) → List (Node 
   -- the whole tree
   pub step-list : (t : Tree X) (k : ℕ) → k < readyT t → flat (updT f k t) ≡ updL g k (flat t)
   step-list t k h = sym (append-nil (flat (updT f k t))) ∙ flat-updT t k [] h ∙ ap (updL g k) (append-nil (flat t))
-
-  -- the step changes the list of its nodes at one index only
-  pub step-at : (t : Tree X) (k : ℕ) → k < readyT t
-      → flat (updT f k t) ≡ take (nth k (flat t)) (flat t) ++ g (drop (nth k (flat t)) (flat t))
-  step-at t k h =
-      let c : count (flat t) ≡ readyT t = ap count (sym (append-nil (flat t))) ∙ count-flat t [] ∙ omega arith in
-      step-list t k h ∙ updL-at g k (flat t) (omega arith)

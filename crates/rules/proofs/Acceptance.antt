@@ -125,13 +125,6 @@ written P b =
       typed = rw (w .1) (faults P (b .formed) .1 (b .typed));
     }
 
--- k, m, n and D of the policy written
-pub written-sizes : (P : Policy) → WellFormed P
-    → sizesOf (writeBook P) ≡ record { fields = P .fields; tables = length (P .tables); parts = parts (P .main); deep = deep (P .main) }
-unfolding sizesOf policyOf writeBook
-written-sizes P f =
-    let main : mainOf (writeBook P) ≡ P .main = ap (λ (Q : Policy). Q .main) (whole-reads P f .1) in rw main
-
 -- no two well-formed policies are written alike
 pub unique : (P Q : Policy) → WellFormed P → WellFormed Q → writeBook P ≡ writeBook Q → P ≡ Q
 unique P Q f g e = sym (whole-reads P f .1) ∙ ap policyOf e ∙ whole-reads Q g .1

@@ -8,8 +8,8 @@ use Rattle.rules.specs.declared.Verdict.the-variants.{Accepted}
 use Rattle.rules.specs.Masks.{allFields, Sub}
 use Rattle.rules.specs.Parts.{Formed, parts, deep}
 use Rattle.rules.specs.Typing.{Right, tested, written}
-use Rattle.rules.specs.Books.{mostFields, mostTables, mostBytes, mostParts, mostBeside, entries, Book, Bytes}
-use Rattle.rules.specs.Reading.{fieldsOf, tablesOf, mainOf, policyOf, sizesOf, verdict}
+use Rattle.rules.specs.Books.{mostFields, mostBytes, mostParts, mostBeside, entries, Book, Bytes}
+use Rattle.rules.specs.Reading.{fieldsOf, mainOf, policyOf, sizesOf, verdict}
 use Rattle.rules.proofs.Whole.{Readable}
 use Rattle.rules.proofs.FieldsBelow.{FieldsBelow}
 use Rattle.rules.proofs.FineLaws.{main-formed, main-below, main-tested, main-written}
@@ -27,9 +27,6 @@ module _ (s : List ℕ) (z : Sizes) (yes : verdict s ≡ Accepted z) where
 
   pub accepted-fields : (1 ≤ fieldsOf s) × (fieldsOf s ≤ mostFields)
   accepted-fields = accepted-readable .fields
-
-  pub accepted-tables : tablesOf s ≤ mostTables
-  accepted-tables = accepted-readable .tables
 
   pub accepted-parts : parts (mainOf s) ≤ mostParts
   accepted-parts = passed-was s z yes .0 .parts

@@ -1,5 +1,5 @@
 -- Sets of packets: the members of each operation, that it ascends, that members fix an ascending list, and lengths.
-use Prim.Native.Nat.{ℕ, suc, _+_, _≤_, zero-le, suc-le-suc}
+use Prim.Native.Nat.{ℕ, suc, _+_, _≤_}
 use mathlib.Core.Path.{_≡_, refl, sym, ap, ap₂, _∙_, subst}
 use mathlib.Core.Logic.{_⊎_, inl, inr, ⊎-elim, _↔_}
 use mathlib.Core.Bool.{Bool, true, false, not, _||_, false≢true}
@@ -188,10 +188,6 @@ after-insert a x s e h =
     after-in a (insert x s)
     (λ b m. ⊎-elim (λ (k : b ≡ x). subst (λ (c : Packet). Before a c) (sym k) e) (λ (k : b ∈ s). after-out a b s h k) (insert-out b x s m))
 
-pub after-union : (a : Packet) (s t : Packets) → AllAfter a s → AllAfter a t → AllAfter a (union s t)
-after-union a s t h k =
-    after-in a (union s t) (λ b m. ⊎-elim (λ (l : b ∈ s). after-out a b s h l) (λ (l : b ∈ t). after-out a b t k l) (union-out b s t m))
-
 pub after-keep : (g : Packet → Bool) (a : Packet) (s : Packets) → AllAfter a s → AllAfter a (keep g s)
 after-keep g a s h = after-in a (keep g s) (λ b m. after-out a b s h (keep-out g b s m .0))
 
@@ -246,14 +242,6 @@ module _ (x y : Packet) (s t : Packets) (h : Ascending (x ∷ s)) (k : Ascending
   rest-in e i b m =
       ⊎-elim (λ (f : b ≡ y). absurd (after-not-in x s (h .0) (cast∈ x b s (e ∙ sym f) m))) (λ (n : b ∈ t). n) (i b (inr m))
 
-  all-in : x ∈ t → ((b : Packet) → b ∈ (x ∷ s) → b ∈ (y ∷ t)) → (b : Packet) → b ∈ (x ∷ s) → b ∈ t
-  all-in l i b (inl e) = cast∈ b x t e l
-  all-in l i b (inr m) =
-      ⊎-elim
-      (λ (e : b ≡ y).
-      absurd (before-not-after x y (subst (λ (c : Packet). Before x c) e (after-out x b s (h .0) m)) (after-out y x t (k .0) l)))
-      (λ (n : b ∈ t). n) (i b (inr m))
-
 pub unique : (s t : Packets) → Ascending s → Ascending t → ((b : Packet) → (b ∈ s) ↔ (b ∈ t)) → s ≡ t
 unique [] [] h k e = refl
 unique [] (y ∷ t) h k e = absurd (e y .1 (inl refl))
@@ -282,46 +270,7 @@ unfolding union insert
 gathered-same [] h = refl
 gathered-same (x ∷ s) h = union-after x [] s (h .0) ∙ ap (λ (r : Packets). x ∷ r) (gathered-same s (h .1))
 
-pub union-comm : (s t : Packets) → Ascending s → Ascending t → union s t ≡ union t s
-union-comm s t h k =
-    unique (union s t) (union t s) (union-ascending s t h) (union-ascending t s k) (λ b. (turn b s t, turn b t s))
-  where
-    turn : (b : Packet) (s t : Packets) → b ∈ union s t → b ∈ union t s
-    turn b s t m = union-in b t s (⊎-elim (λ (l : b ∈ s). inr l) (λ (l : b ∈ t). inl l) (union-out b s t m))
-
-pub union-assoc : (r s t : Packets) → Ascending r → union (union r s) t ≡ union r (union s t)
-union-assoc r s t h =
-    unique (union (union r s) t) (union r (union s t))
-    (union-ascending (union r s) t (union-ascending r s h)) (union-ascending r (union s t) h)
-    (λ b. (to b, from b))
-  where
-    to : (b : Packet) → b ∈ union (union r s) t → b ∈ union r (union s t)
-    to b m =
-        ⊎-elim
-        (λ (k : b ∈ union r s). ⊎-elim (λ (l : b ∈ r). union-in b r (union s t) (inl l))
-        (λ (l : b ∈ s). union-in b r (union s t) (inr (union-in b s t (inl l)))) (union-out b r s k))
-        (λ (k : b ∈ t). union-in b r (union s t) (inr (union-in b s t (inr k)))) (union-out b (union r s) t m)
-
-    from : (b : Packet) → b ∈ union r (union s t) → b ∈ union (union r s) t
-    from b m =
-        ⊎-elim (λ (k : b ∈ r). union-in b (union r s) t (inl (union-in b r s (inl k))))
-        (λ (k : b ∈ union s t). ⊎-elim (λ (l : b ∈ s). union-in b (union r s) t (inl (union-in b r s (inr l))))
-        (λ (l : b ∈ t). union-in b (union r s) t (inr l)) (union-out b s t k))
-        (union-out b r (union s t) m)
-
 -- ---- lengths
-
--- a set within another is no longer
-pub sub-length : (s t : Packets) → Ascending s → Ascending t → ((b : Packet) → b ∈ s → b ∈ t) → length s ≤ length t
-sub-length [] t h k i = zero-le
-sub-length (x ∷ s) [] h k i = absurd (i x (inl refl))
-sub-length (x ∷ s) (y ∷ t) h k i =
-    go (λ j. sub-length s t (h .1) (k .1) j) (λ j. sub-length (x ∷ s) t h (k .1) j) (i x (inl refl))
-  where
-    go : (((b : Packet) → b ∈ s → b ∈ t) → length s ≤ length t) → (((b : Packet) → b ∈ (x ∷ s) → b ∈ t) → suc (length s) ≤ length t)
-        → (x ≡ y) ⊎ (x ∈ t) → suc (length s) ≤ suc (length t)
-    go f g (inl e) = suc-le-suc (f (rest-in x y s t h k e i))
-    go f g (inr l) = let r : suc (length s) ≤ length t = g (all-in x y s t h k l i) in omega arith
 
 put-le : (o : Order) (x y : Packet) (s r : Packets) → length s ≤ length r → length (y ∷ s) ≤ length (putBy o x y s r)
 put-le Less x y s r h = omega arith
@@ -352,9 +301,6 @@ pub length-union-more : (s t : Packets) → length (union s t) ≤ length s + le
 unfolding union
 length-union-more s [] = omega arith
 length-union-more s (x ∷ t) = omega (arith, length-insert-more x s, length-union-more (insert x s) t)
-
-pub length-union-right : (s t : Packets) → Ascending s → Ascending t → length t ≤ length (union s t)
-length-union-right s t h k = sub-length t (union s t) k (union-ascending s t h) (λ b m. union-in b s t (inr m))
 
 if-length : (o : Bool) (x : Packet) (r : Packets) → length (consIf o x r) ≤ suc (length r)
 if-length true x r = omega arith

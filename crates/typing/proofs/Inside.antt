@@ -1,21 +1,18 @@
 -- Walking an accepted book stays inside it: each part that a walk comes to is written at its place, and decoded there.
-use Prim.Native.Nat.{ℕ, zero, suc, _+_, _<_, _≤_}
+use Prim.Native.Nat.{ℕ, suc, _+_}
 use native.Mathlib.Omega.{arith}
-use mathlib.Core.Path.{_≡_, sym, _∙_}
-use mathlib.Core.Option.{some}
+use mathlib.Core.Path.{_≡_, _∙_}
 use mathlib.Core.Bool.{Bool, true, false}
 use mathlib.Core.List.{List, _∷_, _++_, append-assoc}
-use lib.ListN.{length, drop}
-use borrow.Author.Tests.{ne-eqb}
+use lib.ListN.{drop}
 use Rattle.rules.specs.declared.Sizes.{Sizes}
 use Rattle.rules.specs.declared.Verdict.the-variants.{Accepted}
 use Rattle.rules.specs.Parts.{Part, Not, Sum, Seq, Beside, write, size}
-use Rattle.rules.specs.Books.{Scope, scopeOf, Fine, OfBody, noUse, mostDepth, bytesOf, entries, Bytes}
-use Rattle.rules.specs.Reading.{after, partAt, fieldsOf, tablesOf, lengthAt, bodyStart, bodyAt, useAt, mainOf}
-use Rattle.rules.specs.Reading.{tablesFrom, policyOf, verdict}
-use Rattle.rules.proofs.Decoding.{reads, drop-head, size-positive, written-within}
-use Rattle.rules.proofs.Standing.{Stands, AllStand}
-use Rattle.rules.proofs.Whole.{tableAt, FineBody, FineBodies, entries-read}
+use Rattle.rules.specs.Books.{Scope, scopeOf, Fine, mostDepth, bytesOf, entries, Bytes}
+use Rattle.rules.specs.Reading.{fieldsOf, tablesOf, bodyStart, useAt, mainOf}
+use Rattle.rules.specs.Reading.{policyOf, verdict}
+use Rattle.rules.proofs.Decoding.{reads, drop-head}
+use Rattle.rules.proofs.Whole.{entries-read}
 use Rattle.rules.proofs.AcceptedBooks.{accepted-readable}
 
 -- a fine part, written at a place
@@ -23,18 +20,6 @@ pub record Placed (s : List ℕ) (c : Scope) (named : ℕ → Part) (d : ℕ) (p
   pub fine : Fine c named d pred p
   pub rest : List ℕ
   pub bytes : drop at s ≡ write p ++ rest
-
-module _ (s : List ℕ) (c : Scope) (named : ℕ → Part) (d : ℕ) (pred : Bool) (at : ℕ) (p : Part) (h : Placed s c named d pred at p) where
-  pub placed-part : partAt s named d at ≡ p
-  placed-part = reads s c named d pred at p (h .rest) (h .fine) (h .bytes) .1
-
-  pub placed-after : after s d at ≡ at + size p
-  placed-after = reads s c named d pred at p (h .rest) (h .fine) (h .bytes) .2
-
-  pub placed-inside : (at < length s) × (at + size p ≤ length s)
-  placed-inside =
-      let w = written-within s at p (h .rest) (h .bytes) in
-      (omega (arith, size-positive p), omega arith)
 
 -- the parts below are placed too, one level less deep
 module _ (s : List ℕ) (c : Scope) (named : ℕ → Part) (d : ℕ) (pred : Bool) (at : ℕ) where
@@ -82,36 +67,3 @@ unfolding policyOf entries bytesOf
 main-placed s z v small =
     let w = entries-read s small (accepted-readable s z v) in
     record { fine = w .1; rest = drop (bodyStart s 1) s; bytes = w .0 .0 .bytes }
-
--- and so is the body of each populated table
-module _ (s : List ℕ) where
-  abbrev BodyPlaced : ℕ → Type 0
-  BodyPlaced x =
-      Placed s (scopeOf (fieldsOf s) (tablesOf s) false) noUse mostDepth false (bodyStart s x) (partAt s noUse mostDepth (bodyStart s x))
-
-  body-placed : (x : ℕ) → Stands s x (tableAt s x) → OfBody (FineBody (fieldsOf s) (tablesOf s)) (bodyAt s x) → (lengthAt s x ≡ 0 → ⊥)
-      → BodyPlaced x
-  unfolding bodyAt bytesOf
-  body-placed x st f h =
-      let e : bodyAt s x ≡ some (partAt s noUse mostDepth (bodyStart s x)) = rw (ne-eqb (lengthAt s x) 0 h) in
-      record { fine = rw e at f; rest = drop (bodyStart s (suc x)) s; bytes = rw e at (st .bytes) }
-
-  bodies-placed : (n x i : ℕ) → AllStand s x (tablesFrom s n x) → FineBodies s (tablesFrom s n x) → i < n
-      → (lengthAt s (x + i) ≡ 0 → ⊥) → BodyPlaced (x + i)
-  unfolding tablesFrom
-  bodies-placed zero x i st f l h = absurd (omega arith)
-  bodies-placed (suc n) x zero st f l h =
-      let q : x + 0 ≡ x = omega arith in
-      rw q (body-placed x (st .0) (f .0) (rw q at h))
-  bodies-placed (suc n) x (suc i) st f l h =
-      let q : x + suc i ≡ suc x + i = omega arith in
-      rw q (bodies-placed n (suc x) i (st .1) (f .1) (omega arith) (rw q at h))
-
-  pub table-placed : (z : Sizes) → verdict s ≡ Accepted z → Bytes s → (x : ℕ) → 0 < x → x ≤ tablesOf s → (lengthAt s x ≡ 0 → ⊥)
-      → BodyPlaced x
-  unfolding policyOf entries
-  table-placed z v small zero l u h = absurd (omega arith)
-  table-placed z v small (suc x) l u h =
-      let w = entries-read s small (accepted-readable s z v) in
-      let q : 1 + x ≡ suc x = omega arith in
-      rw q at (bodies-placed (tablesOf s) 1 x (w .0 .1) (w .2) (omega arith) (rw (sym q) at h))
