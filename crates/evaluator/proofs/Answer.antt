@@ -1,6 +1,6 @@
 -- The evaluator's contract in the words of demand 2: the answer is the only one, buffer included (`unique`), and a packet set that is
 -- given is exactly what the published meaning gives, ascending, at the front of the result, all other words kept (`published`).
-use Prim.Native.Nat.{ℕ, _+_, _*_, _≤_, _<_}
+use Prim.Native.Nat.{ℕ, _*_, _≤_}
 use native.Mathlib.Omega.{arith}
 use mathlib.Core.Path.{_≡_, refl, sym, ap, _∙_}
 use mathlib.Core.Logic.{_↔_, inl, inr}

@@ -1,25 +1,23 @@
 -- The whole answer: what each return of evaluate says (document 01, the numbers 1 to 7, then 8, 12, 9, 10).
-use Prim.Native.Nat.{ℕ, _+_, _-_, _*_, _/_, _^_, _≤_, _<_}
+use Prim.Native.Nat.{ℕ, _*_, _≤_, _<_}
 use native.Mathlib.Omega.{arith}
 use native.Mathlib.Nat.{suc-mul, mul-le-mul-right}
-use mathlib.Core.Path.{_≡_, refl, sym, ap, _∙_}
-use mathlib.Core.Bool.{Bool, true, false, not}
-use mathlib.Core.List.{List, [], _∷_, _++_}
-use lib.Dec.{leb, eqb}
+use mathlib.Core.Path.{_≡_, sym, ap, _∙_}
+use mathlib.Core.Bool.{Bool, true, false}
+use mathlib.Core.List.{List, [], _∷_}
 use lib.ListN.{length, length-append, length-take}
-use borrow.Author.Tests.{eq-eqb, ne-eqb, le-leb, lt-leb}
+use borrow.Author.Tests.{le-leb}
 use Rattle.rules.specs.declared.Refusal.{Refusal}
 use Rattle.rules.specs.declared.Refusal.the-variants.{PacketLength, BufferLength, Unpopulated, TooWide}
 use Rattle.rules.specs.declared.Sizes.{Sizes}
 use Rattle.rules.specs.declared.Verdict.the-variants.{Accepted, Refused}
 use Rattle.rules.specs.declared.Outcome.{Outcome}
-use Rattle.rules.specs.declared.Evaluated.{Evaluated}
 use Rattle.rules.specs.declared.Evaluated.the-variants.{Given, NotGiven}
 use Rattle.rules.specs.Packets.{Packets, mostPackets, valuesOf}
-use Rattle.rules.specs.Parts.{Part, parts, deep, namesOpen}
+use Rattle.rules.specs.Parts.{namesOpen}
 use Rattle.rules.specs.Books.{mostDepth}
 use Rattle.rules.specs.Reading.{fieldsOf, bodyStart, useAt, partAt, mainOf, sizesOf, verdict}
-use Rattle.rules.specs.Working.{out, steps, room, width}
+use Rattle.rules.specs.Working.{out, room}
 use Rattle.rules.specs.Answers.{startSet, given, outcome, evaluated, evaluatedResult, overwritten}
 use Rattle.rules.specs.Promises.{Granted, EvaluateAnswer}
 use Rattle.rules.proofs.Answering.{not-given-keeps, evaluated-refused, evaluated-packet, evaluated-buffer}

@@ -1,19 +1,19 @@
 -- One law for each function that changes the area or reads a set from it.
 use mathlib.Core.Path.{_≡_, refl, sym, ap, subst, _∙_}
-use mathlib.Core.List.{List, [], _∷_, _++_, map, append-assoc}
-use Prim.Native.Nat.{ℕ, zero, suc, _+_, _-_, _*_, _%_, _≤_, _<_}
+use mathlib.Core.List.{List, [], _∷_, _++_, append-assoc}
+use Prim.Native.Nat.{ℕ, suc, _+_, _-_, _*_, _%_, _≤_, _<_}
 use native.Mathlib.Nat.{mod-eq-of-lt}
 use native.Mathlib.Omega.{arith}
 use lib.ListN.{length, take, drop, getD, set, replicate, length-drop, length-append, length-replicate, take-append-drop}
 use lib.Seq.{paste, take-all, length-take-le, drop-at, drop-drop}
 use Rattle.rules.specs.Packets.{Packets, Ascending}
 use Rattle.packets.specs.declared.PacketSet.{PacketSet}
-use Rattle.rows.specs.Chunks.{chunks, Packed}
+use Rattle.rows.specs.Chunks.{chunks}
 use Rattle.packets.specs.Rows.{rows, Whole, Is}
 use Rattle.rows.specs.Arrays.{eightAt, storedAt}
 use Rattle.rows.proofs.Chunks.{eight-at, stored-at, length-chunks, chunks-append, chunks-add}
 use Rattle.machine.specs.Area.{heads, slots, Now, turned, Pos, slotOf, posOf, here, all, order, Wf, Holds, marked, given}
-use Rattle.machine.proofs.Blocks.{moved, moved-eq}
+use Rattle.machine.proofs.Blocks.{moved}
 use Rattle.machine.proofs.Areas.{now-then, now-as, head-at, word-at, slot-at, put-head, move-heads, put-slot, length-heads}
 use Rattle.machine.proofs.Turned.{opens-one, opens-two, closes-one, closes-two}
 use Rattle.machine.proofs.Slots.{turned-holds, head-holds, mark-holds, give-holds, markedHead, givenHead, slot-small}

@@ -1,17 +1,16 @@
 -- An accepted book is readable, its main policy stands where its body starts, and no run of it is stuck.
 use Prim.Native.Nat.{ℕ, zero, suc, _+_, _≤_, _<_}
 use native.Mathlib.Omega.{arith}
-use mathlib.Core.Path.{_≡_, refl, sym, ap, _∙_}
-use mathlib.Core.Bool.{Bool, true, false, _||_, false≢true}
-use mathlib.Core.List.{List, [], _∷_, _++_}
-use mathlib.Core.Option.{Option, none, some}
-use lib.ListN.{length, drop}
+use mathlib.Core.Path.{_≡_, refl, sym, _∙_}
+use mathlib.Core.Bool.{Bool, true, false, false≢true}
+use mathlib.Core.List.{List, [], _++_}
+use mathlib.Core.Option.{some}
+use lib.ListN.{drop}
 use Rattle.rules.specs.declared.Sizes.{Sizes}
 use Rattle.rules.specs.declared.Verdict.the-variants.{Accepted}
-use Rattle.rules.specs.Packets.{Packets}
 use Rattle.rules.specs.Parts.{Part, Id, Drop, Test, Set, Not, Sum, Seq, Beside, Table, Open, write, namesOpen}
 use Rattle.rules.specs.Books.{mostDepth, Entry, entries, bytesOf, Scope, scopeOf, noUse, Fine, OfBody, OfEach, Bytes}
-use Rattle.rules.specs.Reading.{fieldsOf, tablesOf, bodyStart, partAt, bodyAt, useAt, mainOf, tablesFrom, policyOf, verdict}
+use Rattle.rules.specs.Reading.{fieldsOf, tablesOf, bodyStart, bodyAt, useAt, mainOf, tablesFrom, policyOf, verdict}
 use Rattle.rules.specs.States.{stuckIn}
 use Rattle.rules.specs.Answers.{start, startSpot, startSet}
 use Rattle.rules.proofs.Decoding.{reads}

@@ -1,14 +1,12 @@
 -- What one write does to the headers and the slots.
-use mathlib.Core.Path.{_≡_, refl, sym, ap, _∙_}
-use mathlib.Core.List.{List, [], _∷_, _++_, map, append-assoc}
-use Prim.Native.Nat.{ℕ, zero, suc, _+_, _-_, _*_, _%_, _≤_, _<_}
-use native.Mathlib.Nat.{add-zero, zero-add, add-mul, suc-add}
-use native.Mathlib.Numerals.{add-one}
+use mathlib.Core.Path.{_≡_, sym, ap, _∙_}
+use mathlib.Core.List.{List, [], _∷_, _++_, append-assoc}
+use Prim.Native.Nat.{ℕ, zero, suc, _+_, _-_, _*_, _≤_, _<_}
+use native.Mathlib.Nat.{zero-add, add-mul}
 use native.Mathlib.Omega.{arith}
-use lib.ListN.{length, take, drop, getD, set, length-set, length-drop, length-append, take-append-drop, List·getD-append}
-use lib.Seq.{drop-set-lt, drop-paste, length-paste, paste, drop-drop, take-append-le, drop-append-le, length-take-le, take-take, getD-take}
-use lib.Seq.{getD-drop, take-at, drop-at, take-add}
-use Rattle.machine.proofs.Blocks.{length-blocks, blocks-add, blocks-front, blocks-take, getD-blocks, set-blocks, blocks-put}
+use lib.ListN.{length, take, drop, getD, set, length-drop, length-append, take-append-drop}
+use lib.Seq.{drop-paste, length-paste, paste, drop-drop, drop-append-le, length-take-le, getD-take, getD-drop, take-at, drop-at}
+use Rattle.machine.proofs.Blocks.{length-blocks, blocks-add, blocks-front, blocks-take, getD-blocks, blocks-put}
 use Rattle.machine.proofs.Blocks.{blocks-paste, take-blocks, drop-blocks, moved, paste-shift}
 use Rattle.machine.specs.Area.{blocks, heads, slots, Now}
 

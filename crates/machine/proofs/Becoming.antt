@@ -1,11 +1,10 @@
 -- How the positions that a step touches become others, act by act: opened, closed, marked, given another set.
 use mathlib.Core.Path.{_≡_, refl, sym, ap, subst, _∙_}
-use mathlib.Core.List.{List, [], _∷_, _++_, map, append-assoc}
+use mathlib.Core.List.{List, [], _∷_, _++_, append-assoc}
 use Prim.Native.Nat.{ℕ, zero, suc, _+_, _-_, _≤_, _<_}
-use native.Mathlib.Nat.{suc-add, add-zero}
 use native.Mathlib.Numerals.{add-one}
 use native.Mathlib.Omega.{arith}
-use lib.ListN.{length, take, drop, getD, set, length-drop, length-append, length-take, length-set, take-append-drop, List·getD-append}
+use lib.ListN.{length, take, drop, getD, set, length-drop, length-append, length-set, take-append-drop, List·getD-append}
 use lib.Seq.{take-set-lt, length-take-le, drop-drop, take-append-le, drop-append-le, take-at, drop-at, take-add, getD-take, getD-append-add}
 use lib.Seq.{drop-cons, set-append-left, set-set, getD-set-same}
 use Rattle.rules.specs.Packets.{Packets}

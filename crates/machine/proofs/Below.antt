@@ -1,13 +1,13 @@
 -- A step that leaves parts to be placed below a position: what settling them needs, and what comes of it.
 use mathlib.Core.Path.{_≡_, refl, sym, ap, _∙_}
-use mathlib.Core.List.{List, [], _∷_, _++_, map, append-nil}
-use Prim.Native.Nat.{ℕ, suc, _+_, _-_, _≤_, _<_}
+use mathlib.Core.List.{List, [], _∷_, _++_, append-nil}
+use Prim.Native.Nat.{ℕ, _+_, _≤_, _<_}
 use native.Mathlib.Omega.{arith}
-use lib.ListN.{length, take, drop, getD, length-append}
-use Rattle.machine.specs.Area.{Pos, here, order, Wf, Becomes}
+use lib.ListN.{length, length-append}
+use Rattle.machine.specs.Area.{Pos, here, Becomes}
 use Rattle.machine.specs.Shown.{Live, flat, meant, Turns, Stands, placing, Standing, StandingTwo}
 use Rattle.machine.proofs.Becoming.{here-new}
-use Rattle.machine.proofs.Turning.{turns-by, turns-as, turns-in, flat-some}
+use Rattle.machine.proofs.Turning.{turns-by, turns-as, turns-in}
 
 -- one part to be placed at the only new position
 module _ (s : List ℕ) {w v : List ℕ} {live n i k : ℕ} {Y : Pos} (b : Becomes w v live n i k (Y ∷ [])) where

@@ -1,11 +1,11 @@
 -- The steps at a placed concurrent part: on no packet, on one, on more.
-use mathlib.Core.Path.{_≡_, refl, sym, ap, subst, _∙_}
+use mathlib.Core.Path.{_≡_, refl, sym, ap, _∙_}
 use mathlib.Core.List.{List, [], _∷_, _++_, map}
-use Prim.Native.Nat.{ℕ, zero, suc, _+_, _-_, _*_, _≤_, _<_}
+use Prim.Native.Nat.{ℕ, _+_, _-_, _≤_, _<_}
 use native.Mathlib.Omega.{arith}
 use lib.ListN.{length, take, drop, getD, set, length-append}
 use Rattle.rules.specs.Masks.{less}
-use Rattle.rules.specs.Packets.{Packet, Packets, insert, union, gathered, without}
+use Rattle.rules.specs.Packets.{Packets, insert, union, gathered, without}
 use Rattle.rules.specs.Parts.{Part, Beside, size}
 use Rattle.rules.specs.Books.{mostDepth}
 use Rattle.rules.specs.Reading.{after}
@@ -13,9 +13,9 @@ use Rattle.rules.specs.States.{Spot, on, losing, Tree, placed, done, both, spli
 use Rattle.packets.specs.declared.PacketSet.{PacketSet}
 use Rattle.packets.specs.Rows.{rows, Is}
 use Rattle.machine.specs.Area.{turned, Pos, here, all, order, Wf, Holds, marked, given, Becomes, Parts}
-use Rattle.machine.specs.Shown.{Placed, Done, Both, flat, partOf, spotOf, joinOf, meantBy, meant, Turns, placing, entering}
+use Rattle.machine.specs.Shown.{Placed, Both, flat, partOf, spotOf, joinOf, meantBy, meant, Turns, placing, entering}
 use Rattle.machine.specs.Shown.{StandingTwo, Entering}
-use Rattle.machine.proofs.Becoming.{one-begins, here-new, then-set, then-marked, then-given, then-opened-one, then-opened-two}
+use Rattle.machine.proofs.Becoming.{one-begins, here-new, then-marked, then-given, then-opened-one, then-opened-two}
 use Rattle.machine.proofs.Turning.{turns-by, turns-as, flat-some}
 use Rattle.machine.proofs.Below.{two-stand, two-turn}
 use Rattle.machine.proofs.Standing.{Two, inside, beside-below}

@@ -1,14 +1,13 @@
 -- Words in blocks of S, words moved from one place to another, and maps over parts of lists.
 use mathlib.Core.Path.{_≡_, refl, sym, ap, _∙_}
-use mathlib.Core.List.{List, [], _∷_, _++_, append-assoc, append-nil, map}
+use mathlib.Core.List.{List, [], _∷_, _++_, append-assoc, map}
 use Prim.Native.Nat.{ℕ, zero, suc, _+_, _-_, _*_, _≤_, _<_}
-use native.Mathlib.Nat.{zero-add, add-zero, suc-add, add-suc, add-assoc, suc-mul, zero-mul, add-mul}
+use native.Mathlib.Nat.{zero-add, suc-add, suc-mul, zero-mul}
 use native.Mathlib.Numerals.{add-one}
 use native.Mathlib.Omega.{arith}
-use lib.ListN.{length, take, drop, getD, set, length-append, length-take, length-drop, take-append-drop, List·getD-append}
-use lib.Seq.{drop-paste, paste-zero, paste-suc, length-paste, getD-append-add, length-paste-head, take-append-le, drop-append-le, drop-drop}
-use lib.Seq.{getD-take, getD-drop, drop-set-lt, take-set-le, take-set-lt, drop-set-add, length-take-le, take-at, take-take, take-add, paste}
-use lib.Seq.{drop-at, set-at, getD-at, take-suc, drop-cons, append-snoc}
+use lib.ListN.{length, take, drop, getD, set, length-drop, take-append-drop, List·getD-append}
+use lib.Seq.{paste-zero, paste-suc, getD-append-add, length-paste-head, take-append-le, drop-append-le, drop-drop}
+use lib.Seq.{getD-take, getD-drop, length-take-le, take-at, take-add, paste, drop-at, set-at, take-suc, drop-cons, append-snoc}
 use Rattle.machine.specs.Area.{blocks}
 
 module _ {A : Type 0} where

@@ -2,15 +2,15 @@
 use mathlib.Core.Path.{_≡_, refl, sym, ap, subst, _∙_}
 use mathlib.Core.Bool.{true}
 use mathlib.Core.List.{List, [], _∷_, _++_}
-use Prim.Native.Nat.{ℕ, _+_, _%_, _<_}
+use Prim.Native.Nat.{ℕ, _%_, _<_}
 use native.Mathlib.Nat.{mod-lt}
 use native.Mathlib.Omega.{arith}
 use lib.ListN.{length, take, drop, getD, length-append, List·getD-eq-default}
 use lib.Seq.{length-take-le}
 use Rattle.rules.specs.States.{Tree, next, ready, move, run}
-use Rattle.rules.proofs.Lists.{All, none, also}
+use Rattle.rules.proofs.Lists.{All, also}
 use Rattle.machine.specs.Ready.{rdL, count, nth, marks}
-use Rattle.machine.specs.Shown.{Live, flat, state, Fit, stepped, Stepping, Stepped, Playable, Held, Advancing, Advanced}
+use Rattle.machine.specs.Shown.{Live, flat, state, Fit, stepped, Stepping, Stepped, Held, Advancing, Advanced}
 use Rattle.machine.proofs.Scans.{length-marks}
 use Rattle.machine.proofs.Stepping.{length-state}
 use Rattle.machine.proofs.Refining.{ready-held, pick-held, step-held}

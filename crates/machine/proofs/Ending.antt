@@ -1,5 +1,5 @@
 -- The end of a run: the answer is read from the words, and the area is cleared.
-use mathlib.Core.Path.{_≡_, refl, sym, ap, subst, _∙_}
+use mathlib.Core.Path.{_≡_, sym, ap, subst, _∙_}
 use mathlib.Core.Bool.{Bool, true}
 use mathlib.Core.List.{List, [], _∷_, _++_}
 use Prim.Native.Nat.{ℕ, zero, suc, _+_, _*_, _≤_, _<_}
@@ -8,14 +8,11 @@ use native.Mathlib.Omega.{arith}
 use lib.Dec.{leb}
 use borrow.Author.Tests.{le-leb}
 use lib.ListN.{length, take, drop, replicate, length-append, length-take, length-replicate}
-use Rattle.rules.specs.declared.Finish.{Finish}
-use Rattle.rules.specs.declared.Progress.{Progress}
-use Rattle.rules.specs.declared.Ran.{Ran}
 use Rattle.rules.specs.declared.Ran.the-variants.{Finished, Running}
 use Rattle.rules.specs.Packets.{Packets, Ascending, valuesOf}
 use Rattle.rules.specs.States.{Tree, done, finish, ready, run, live as liveIn, made}
 use Rattle.rules.specs.Answers.{overwritten, stopped, finalOf, resultRun}
-use Rattle.rules.proofs.Lists.{All, none, also}
+use Rattle.rules.proofs.Lists.{All, also}
 use Rattle.rules.proofs.Measures.{final}
 use Rattle.rules.proofs.Schedules.{view, finished, unfinished}
 use Rattle.packets.specs.declared.PacketSet.{PacketSet}
@@ -24,7 +21,7 @@ use Rattle.rows.specs.Areas.{Emitted, onto}
 use Rattle.rows.proofs.Chunks.{length-chunks}
 use Rattle.machine.specs.Area.{Pos, here, order, Wf}
 use Rattle.machine.specs.Ready.{count, marks}
-use Rattle.machine.specs.Shown.{Live, Done, flat, meantBy, meant, state, Fit, Playable, Held, Played}
+use Rattle.machine.specs.Shown.{Done, flat, meantBy, meant, state, Fit, Playable, Played}
 use Rattle.machine.proofs.Stepping.{length-state, state-at}
 use Rattle.machine.proofs.Refining.{ready-held}
 use Rattle.machine.proofs.Playing.{over-is, goes-is}

@@ -1,19 +1,19 @@
 -- The steps at a placed part, each as the positions that it makes.
-use mathlib.Core.Path.{_≡_, refl, sym, ap, subst, _∙_}
+use mathlib.Core.Path.{_≡_, refl, sym, ap, _∙_}
 use mathlib.Core.List.{List, [], _∷_, _++_, map, append-nil}
-use Prim.Native.Nat.{ℕ, zero, suc, _+_, _-_, _*_, _≤_, _<_}
+use Prim.Native.Nat.{ℕ, zero, suc, _+_, _-_, _≤_, _<_}
 use native.Mathlib.Omega.{arith}
-use lib.ListN.{length, take, drop, getD, set, length-append}
+use lib.ListN.{length, drop, getD, set, length-append}
 use Rattle.rules.specs.Packets.{Packets, passes, put, keep, gathered}
-use Rattle.rules.specs.Parts.{Part, Id, Drop, Test, Set, Not, Sum, Seq, Beside, Table, Open, size}
+use Rattle.rules.specs.Parts.{Part, size}
 use Rattle.rules.specs.Books.{mostDepth}
 use Rattle.rules.specs.Reading.{numberAt, bodyStart, after}
 use Rattle.rules.specs.Working.{out}
-use Rattle.rules.specs.States.{Spot, on, moved, Tree, done, both, negated, entered, place, enter}
+use Rattle.rules.specs.States.{Spot, on, moved, done, entered, place, enter}
 use Rattle.packets.specs.declared.PacketSet.{PacketSet}
 use Rattle.packets.specs.Rows.{rows, Is}
 use Rattle.machine.specs.Area.{turned, Pos, here, all, order, Wf, Holds, marked, given, finished, Becomes}
-use Rattle.machine.specs.Shown.{Live, Placed, Done, Waiting, Negated, Both, flat, partOf, spotOf, joinOf, meantBy, meant, Turns}
+use Rattle.machine.specs.Shown.{Done, Both, flat, partOf, spotOf, joinOf, meantBy, meant, Turns}
 use Rattle.machine.specs.Shown.{Stands, placing, entering, Standing, StandingTwo, Entering}
 use Rattle.machine.proofs.Becoming.{one-begins, two-begin, here-new, before-as, then-set, then-marked, then-given, then-opened-one}
 use Rattle.machine.proofs.Becoming.{then-opened-two}

@@ -1,18 +1,16 @@
 -- The steps at a position whose positions below are finished, each as the position that it becomes.
-use mathlib.Core.Path.{_≡_, refl, sym, ap, _∙_}
-use mathlib.Core.Bool.{Bool, true, false}
-use mathlib.Core.List.{List, [], _∷_, _++_, map}
+use mathlib.Core.Path.{_≡_, refl, _∙_}
+use mathlib.Core.List.{List, [], _∷_}
 use Prim.Native.Nat.{ℕ, zero, suc, _+_, _-_, _≤_, _<_}
 use native.Mathlib.Omega.{arith}
-use lib.Dec.{leb}
 use borrow.Author.Tests.{le-leb}
-use lib.ListN.{length, take, drop, getD, set}
+use lib.ListN.{length, getD, set}
 use Rattle.rules.specs.Packets.{Packets, union, pairs, keep, lacks, mostPackets}
 use Rattle.rules.specs.States.{join}
 use Rattle.packets.specs.declared.PacketSet.{PacketSet}
 use Rattle.packets.specs.declared.Made.{Made}
-use Rattle.packets.specs.Rows.{rows, Is, Gives, onlyIf}
-use Rattle.machine.specs.Area.{turned, Pos, here, all, order, Wf, Holds, marked, given, finished, Becomes}
+use Rattle.packets.specs.Rows.{rows, Is, Gives}
+use Rattle.machine.specs.Area.{turned, Pos, here, all, Holds, marked, given, finished, Becomes}
 use Rattle.machine.specs.Shown.{flat, joinOf, placing, Turns, Stands, Standing, Leaving}
 use Rattle.machine.proofs.Becoming.{two-begin, three-begin, then-set, then-marked, then-closed}
 use Rattle.machine.proofs.Below.{only-stands, only-turns}

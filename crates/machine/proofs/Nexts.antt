@@ -3,20 +3,18 @@ use mathlib.Core.Path.{_≡_, refl, sym, ap, _∙_}
 use mathlib.Core.Bool.{Bool, true, false, cond, _&&_}
 use mathlib.Core.List.{List, [], _∷_, _++_, map}
 use Prim.Native.Nat.{ℕ, zero, suc, _+_, _-_, _≤_, _<_}
-use native.Mathlib.Nat.{zero-add}
 use native.Mathlib.Omega.{arith}
 use borrow.Author.Tests.{ltb-true, ltb-false}
 use lib.Dec.{ltb}
 use lib.ListN.{length, drop, getD, length-map, length-append, List·getD-append}
 use lib.Seq.{getD-append-add}
 use Rattle.rules.specs.Packets.{Packets, keep, lacks}
-use Rattle.rules.specs.Parts.{Part}
-use Rattle.rules.specs.States.{Spot, Tree, placed, done, waiting, negated, both, Join, join, place, enter, finish, leave, next}
+use Rattle.rules.specs.States.{Tree, placed, done, waiting, negated, both, join, place, enter, finish, leave, next}
 use Rattle.machine.specs.Ready as R
 use Rattle.machine.specs.Ready.{Node, rest, one, two, b2n}
 use Rattle.machine.specs.Shown.{Live, Placed, Done, Waiting, Negated, Both, flat, firstSet, stepped}
 use Rattle.machine.proofs.Trees as T
-use Rattle.machine.proofs.Trees.{trest, tdone, tone, ttwo, finT, readyRoot, readyT, kids, updT, fin-kids}
+use Rattle.machine.proofs.Trees.{trest, tdone, tone, ttwo, finT, readyRoot, readyT, updT}
 use Rattle.machine.proofs.Blocks.{map-append}
 
 abbrev pub conv : Tree → T.Tree Live

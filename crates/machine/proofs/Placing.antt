@@ -1,21 +1,17 @@
 -- A part placed at a position: id is finished at once, a sequence has a position below it for its first part.
-use mathlib.Core.Path.{_≡_, refl, sym, ap, subst, _∙_}
-use mathlib.Core.Bool.{Bool, true, false}
-use mathlib.Core.Logic.{_⊎_, inl, inr}
-use mathlib.Core.List.{List, [], _∷_, _++_, map}
-use mathlib.Core.Option.{Option, none, some}
-use Prim.Native.Nat.{ℕ, zero, suc, _+_, _-_, _*_, _≤_, _<_}
+use mathlib.Core.Path.{_≡_, refl, sym, ap, _∙_}
+use mathlib.Core.Logic.{inl}
+use mathlib.Core.List.{List, [], _∷_}
+use Prim.Native.Nat.{ℕ, _+_, _-_, _≤_, _<_}
 use native.Mathlib.Omega.{arith}
-use native.Mathlib.Decide.{decLe}
-use lib.ListN.{length, take, drop, getD, set}
-use Rattle.rules.specs.Packets.{Packets}
-use Rattle.rules.specs.Parts.{Part, Id, Drop, Test, Set, Not, Sum, Seq, Beside, Table, Open, write, size}
-use Rattle.rules.specs.Books.{mostDepth, useOf}
-use Rattle.rules.specs.Reading.{readsAt, writesAt, bodyStart, after, built, bodyAt, useAt}
-use Rattle.rules.specs.States.{Spot, on, Tree, placed, done, waiting, place}
-use Rattle.machine.specs.Area.{turned, Pos, here, all, order, Wf, Holds, marked, given, Becomes}
-use Rattle.machine.specs.Shown.{Live, Placed, Done, Waiting, flat, partOf, spotOf, meantBy, meant, Turns, Stands, placing, Standing}
-use Rattle.machine.proofs.Becoming.{one-begins, here-new, then-marked, then-opened-one}
+use lib.ListN.{length, getD, set}
+use Rattle.rules.specs.Parts.{Part, Id, size}
+use Rattle.rules.specs.Books.{mostDepth}
+use Rattle.rules.specs.Reading.{after}
+use Rattle.rules.specs.States.{on, placed, place}
+use Rattle.machine.specs.Area.{turned, Pos, here, all, order, Wf, Holds, marked, Becomes}
+use Rattle.machine.specs.Shown.{Waiting, flat, partOf, spotOf, meantBy, Turns, placing, Standing}
+use Rattle.machine.proofs.Becoming.{one-begins, then-marked, then-opened-one}
 use Rattle.machine.proofs.Turning.{turns-by, turns-as, flat-some}
 use Rattle.machine.proofs.Below.{one-stands, one-turns}
 use Rattle.machine.proofs.Standing.{inside, code-small, part-id, part-rests, seq-below}

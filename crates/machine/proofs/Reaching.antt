@@ -1,8 +1,8 @@
 -- Every state that a run of a readable book reaches is fit: its parts stand in the book, its sets ascend and have at most 16 packets,
 -- and it has at most 160 positions.
-use mathlib.Core.Path.{_≡_, refl, sym, ap, _∙_}
-use mathlib.Core.List.{List, [], _∷_, _++_, map}
-use Prim.Native.Nat.{ℕ, zero, suc, _+_, _≤_, _<_, max}
+use mathlib.Core.Path.{_≡_, refl}
+use mathlib.Core.List.{List, [], _∷_, map}
+use Prim.Native.Nat.{ℕ, _+_, _≤_}
 use native.Mathlib.Omega.{arith}
 use lib.ListN.{length, length-append}
 use Rattle.rules.specs.Packets.{Packets, Ascending, passes, put, without, keep, lacks}
@@ -18,8 +18,8 @@ use Rattle.rules.proofs.Schedules.{run-keeps, held-width}
 use Rattle.rules.proofs.Rooms.{live-room}
 use Rattle.rules.specs.Places.{Everywhere}
 use Rattle.rules.proofs.Everywhere.{Inherited, run-everywhere}
-use Rattle.machine.specs.Shown.{Live, Placed, Done, Waiting, Negated, Both, flat, partOf, Stands, Readable, Fit, Playable}
-use Rattle.machine.proofs.Standing.{Found, Pair, below-not, below-sum, below-seq, below-beside, below-table}
+use Rattle.machine.specs.Shown.{Placed, Done, Waiting, Negated, Both, flat, partOf, Stands, Readable, Fit, Playable}
+use Rattle.machine.proofs.Standing.{Found, below-not, below-sum, below-seq, below-beside, below-table}
 
 -- ---- the sets ascend
 

@@ -1,19 +1,18 @@
 -- The step at a ready position of the list is the rules' step: positions, their count and the pick, from the words to the tree.
 use mathlib.Core.Path.{_≡_, refl, sym, ap, _∙_}
-use mathlib.Core.Bool.{Bool, true, false, _&&_}
+use mathlib.Core.Bool.{Bool, true, false}
 use mathlib.Core.List.{List, [], _∷_, _++_, map, append-nil}
-use Prim.Native.Nat.{ℕ, zero, suc, _+_, _≤_, _<_}
+use Prim.Native.Nat.{ℕ, zero, suc, _<_}
 use native.Mathlib.Omega.{arith}
 use lib.ListN.{length, take, drop, getD}
-use Rattle.rules.specs.Packets.{Packets}
-use Rattle.rules.specs.States.{Tree, place, enter, next, ready}
+use Rattle.rules.specs.States.{Tree, next, ready}
 use Rattle.machine.specs.Area.{Pos, nodes}
 use Rattle.machine.specs.Ready as R
-use Rattle.machine.specs.Ready.{Node, rest, one, two, fin, tl, rd, rdL, b2n, nthB, count, nth, kindOf, shape, marks}
-use Rattle.machine.specs.Shown.{Live, Placed, Done, Waiting, Negated, Both, flat, meantBy, meant, state, stepped}
+use Rattle.machine.specs.Ready.{Node, rest, one, two, fin, tl, rd, rdL, nthB, count, nth, kindOf, shape, marks}
+use Rattle.machine.specs.Shown.{Live, flat, meantBy, meant, state, stepped}
 use Rattle.machine.proofs.Blocks.{map-append, map-take, map-drop}
 use Rattle.machine.proofs.Trees as T
-use Rattle.machine.proofs.Trees.{readyT, count-flat, updL, updL-at, nth-ready}
+use Rattle.machine.proofs.Trees.{count-flat, updL, updL-at, nth-ready}
 use Rattle.machine.proofs.Nexts.{node, conv, flat-conv, length-next, rootL, next-list, node-inj, node-stepped}
 
 -- ---- readiness goes by the kinds alone

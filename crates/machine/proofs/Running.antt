@@ -16,7 +16,7 @@ use Rattle.rules.specs.declared.Verdict.{Verdict}
 use Rattle.rules.specs.declared.Verdict.the-variants.{Accepted, Refused}
 use Rattle.rules.specs.declared.Ran.{Ran}
 use Rattle.rules.specs.declared.Ran.the-variants.{NotRun}
-use Rattle.rules.specs.Packets.{Packets, mostPackets}
+use Rattle.rules.specs.Packets.{Packets}
 use Rattle.rules.specs.Parts.{namesOpen}
 use Rattle.rules.specs.Reading.{fieldsOf, bodyStart, mainOf, sizesOf, verdict}
 use Rattle.rules.specs.Working.{room, width}

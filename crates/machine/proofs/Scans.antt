@@ -1,7 +1,7 @@
 -- The scans for ready positions: the local test on headers, and a turn of each loop.
 use mathlib.Core.Path.{_≡_, refl, sym, ap, _∙_}
 use mathlib.Core.Bool.{Bool, true, false, _&&_}
-use mathlib.Core.List.{List, [], _∷_, _++_, map}
+use mathlib.Core.List.{List, [], _∷_, map}
 use Prim.Native.Nat.{ℕ, zero, suc, _+_, _-_, _*_, _≤_, _<_}
 use native.Mathlib.Numerals.{towards-numerals, add-one}
 use native.Mathlib.Omega.{arith}
@@ -10,7 +10,7 @@ use borrow.Author.Tests.{ne-eqb}
 use lib.ListN.{length, take, drop, getD, length-map, List·getD-map, drop-of-length-le}
 use lib.Seq.{drop-cons, getD-take}
 use Rattle.machine.specs.Area.{heads, slots, Pos, posOf, here, all, nodes}
-use Rattle.machine.specs.Ready.{Node, rest, done, one, two, fin, tl, rd, rdL, b2n, count, nthB, nth, kindOf, shape, marks}
+use Rattle.machine.specs.Ready.{Node, fin, tl, rd, rdL, b2n, count, nthB, nth, kindOf, shape, marks}
 use Rattle.machine.proofs.Areas.{word-at}
 use Rattle.machine.proofs.Slots.{length-nodes, at-index}
 

@@ -1,9 +1,8 @@
 -- The positions that the area holds: what a turned, a written header and a written slot do to them.
-use mathlib.Core.Path.{_≡_, refl, sym, ap, ap₂, subst, _∙_}
+use mathlib.Core.Path.{_≡_, refl, sym, ap, subst, _∙_}
 use mathlib.Core.Logic.{∥∥₁-map}
-use mathlib.Core.List.{List, [], _∷_, _++_, map, append-assoc, List·Mem, List·Memᴰ, List·Memᴰ·head, List·Memᴰ·tail, List·Nodup, nodup-cons}
-use mathlib.Core.List.{nodup-nil, Perm, Perm·nodup, Perm·mem-iff}
-use Prim.Native.Nat.{ℕ, zero, suc, _+_, _-_, _*_, _%_, _≤_, _<_}
+use mathlib.Core.List.{List, [], _∷_, map, List·Mem, List·Memᴰ·head, List·Memᴰ·tail, List·Nodup, nodup-cons, Perm, Perm·nodup, Perm·mem-iff}
+use Prim.Native.Nat.{ℕ, zero, suc, _+_, _*_, _%_, _≤_, _<_}
 use native.Mathlib.Omega.{arith}
 use lib.ListN.{length, take, drop, getD, set, length-map, List·getD-map}
 use lib.Seq.{getD-set-same, getD-set-other, length-take-le, map-set-same, set-set, paste}

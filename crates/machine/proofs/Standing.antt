@@ -1,19 +1,16 @@
 -- The part that stands at a place of a readable book, code by code: its operands, and that the parts below it stand too.
-use Prim.Native.Nat.{ℕ, zero, suc, _+_, _-_, _*_, _≤_, _<_, _^_}
+use Prim.Native.Nat.{ℕ, zero, suc, _+_, _≤_, _<_}
 use native.Mathlib.Omega.{arith}
 use native.Mathlib.Decide.{decLe}
-use mathlib.Core.Path.{_≡_, refl, sym, ap, subst, _∙_}
-use mathlib.Core.Bool.{Bool, true, false, cond, _||_, false≢true}
-use mathlib.Core.List.{List, [], _∷_, _++_}
+use mathlib.Core.Path.{_≡_, refl, sym, ap, _∙_}
+use mathlib.Core.Bool.{Bool, true, false, _||_, false≢true}
+use mathlib.Core.List.{List}
 use mathlib.Core.Option.{Option, none, some}
-use lib.Dec.{eqb}
 use mathlib.Core.Logic.{_⊎_, inl, inr}
-use lib.ListN.{length, getD, drop, length-drop, length-append, List·getD-eq-default}
-use borrow.Author.Tests.{ne-eqb, eqb-true}
+use lib.ListN.{length, getD, length-drop, length-append, List·getD-eq-default}
 use Rattle.rules.specs.Parts.{Part, Id, Drop, Test, Set, Not, Sum, Seq, Beside, Table, Open, write, size, namesOpen}
-use Rattle.rules.specs.Books.{mostDepth, Scope, scopeOf, useOf, noUse, Fine}
-use Rattle.rules.specs.Reading.{fieldsOf, tablesOf, lengthAt, readsAt, writesAt, numberAt, bodyStart, below, after, built, partAt, bodyAt}
-use Rattle.rules.specs.Reading.{useAt}
+use Rattle.rules.specs.Books.{mostDepth, Scope, scopeOf, useOf, Fine}
+use Rattle.rules.specs.Reading.{fieldsOf, tablesOf, readsAt, writesAt, numberAt, bodyStart, below, after, built, partAt, bodyAt, useAt}
 use Rattle.rules.specs.Packets.{Packets}
 use Rattle.rules.specs.States.{Spot, placed, place}
 use Rattle.rules.proofs.Decoding.{reads, drop-head, size-positive}

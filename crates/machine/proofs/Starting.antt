@@ -2,31 +2,27 @@
 use mathlib.Core.Path.{_≡_, refl, sym, ap, subst, _∙_}
 use mathlib.Core.Logic.{_⊎_, inl, inr, ∥∥₁-elim}
 use mathlib.Core.HLevel.{⊥-prop}
-use mathlib.Core.List.{List, [], _∷_, _++_, map, append-assoc, append-nil, List·Mem, List·Memᴰ, List·Memᴰ·cases-cons, List·Memᴰ·not-nil}
+use mathlib.Core.List.{List, [], _∷_, _++_, map, append-nil, List·Memᴰ, List·Memᴰ·cases-cons, List·Memᴰ·not-nil}
 use mathlib.Core.List.{List·Nodup, nodup-cons, nodup-nil}
-use Prim.Native.Nat.{ℕ, zero, suc, _+_, _-_, _*_, _^_, _≤_, _<_}
-use native.Mathlib.Numerals.{add-one}
+use Prim.Native.Nat.{ℕ, zero, suc, _-_, _≤_, _<_}
 use native.Mathlib.Decide.{decLt}
 use native.Mathlib.Omega.{arith}
-use lib.ListN.{length, take, drop, getD, set, replicate, length-drop, length-append, length-set, drop-of-length-le}
-use lib.Seq.{drop-cons, drop-set-lt, getD-set-same, length-take-le, set-at, take-suc}
+use lib.ListN.{length, drop, set, length-set, drop-of-length-le}
+use lib.Seq.{drop-cons, drop-set-lt, getD-set-same}
 use Rattle.rules.specs.Masks.{allFields}
-use Rattle.rules.specs.Packets.{Packets, padded}
 use Rattle.rules.specs.Reading.{fieldsOf, bodyStart, mainOf}
 use Rattle.rules.specs.States.{run}
-use Rattle.rules.specs.Answers.{startSet, startSpot, start}
+use Rattle.rules.specs.Answers.{startSet, start}
 use Rattle.packets.specs.declared.PacketSet.{PacketSet}
 use Rattle.packets.specs.Rows.{rows, Is}
 use Rattle.machine.specs.Area.{heads, slots, Now, slotOf, Pos, here, all, order, Wf, Holds, marked, given, Becomes, Numbered}
 use Rattle.machine.specs.Shown.{Live, flat, partOf, state, Turns, Stands, Readable, placing, Standing, Playable, Held}
 use Rattle.machine.proofs.Blocks.{map-set}
-use Rattle.machine.proofs.Areas.{length-heads}
 use Rattle.machine.proofs.Slots.{length-order}
 use Rattle.machine.proofs.Becoming.{one-begins, then-given, then-marked}
 use Rattle.machine.proofs.Turning.{turns-state}
 use Rattle.machine.proofs.Stepping.{length-state}
 use Rattle.machine.proofs.Below.{only-stands, only-turns}
-use Rattle.machine.proofs.Standing.{inside}
 
 -- ---- every header has a slot of its own: n - 1, n - 2, .. 0
 

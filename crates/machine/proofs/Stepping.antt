@@ -1,30 +1,28 @@
 -- The step at a ready position, by its phase.
 use mathlib.Core.Path.{_≡_, refl, sym, ap, subst, _∙_}
-use mathlib.Core.Bool.{Bool, true, false, _&&_, false≢true}
+use mathlib.Core.Bool.{Bool, true, false≢true}
 use mathlib.Core.Logic.{_⊎_, inl, inr}
-use mathlib.Core.List.{List, [], _∷_, _++_, map, append-assoc}
+use mathlib.Core.List.{List, [], _∷_, _++_, map}
 use Prim.Native.Nat.{ℕ, zero, suc, _+_, _-_, _*_, _≤_, _<_}
 use native.Mathlib.Numerals.{add-one}
 use native.Mathlib.Decide.{decLt}
 use native.Mathlib.Omega.{arith}
-use lib.Dec.{eqb}
 use borrow.Author.Tests.{eqb-true}
 use lib.ListN.{length, take, drop, getD, length-append, length-drop, length-map, List·getD-map}
-use lib.Seq.{drop-cons, drop-drop}
+use lib.Seq.{drop-cons}
 use Rattle.rules.specs.Packets.{Packets, Ascending, keep, lacks}
-use Rattle.rules.specs.Parts.{Part, Id, Seq}
-use Rattle.rules.specs.States.{Spot, join, place, enter}
-use Rattle.rules.proofs.Lists.{All, none, also, all-at}
+use Rattle.rules.specs.States.{join, place, enter}
+use Rattle.rules.proofs.Lists.{All, also, all-at}
 use Rattle.rules.proofs.Decoding.{and-was}
-use Rattle.machine.specs.Area.{Pos, here, nodes, order, Wf, given, finished, Becomes}
-use Rattle.machine.specs.Ready.{fin, rdL, marks}
+use Rattle.machine.specs.Area.{Pos, here, nodes, given, finished, Becomes}
+use Rattle.machine.specs.Ready.{fin, marks}
 use Rattle.machine.specs.Shown.{Live, Placed, Done, Waiting, Negated, Both, flat, partOf, spotOf, joinOf, meantBy, meant, state}
 use Rattle.machine.specs.Shown.{Turns, Stands, placing, entering, Standing, Entering, Leaving, Fit, stepped, Stepping, Stepped}
 use Rattle.machine.proofs.Acts.{phase-from}
 use Rattle.machine.proofs.Slots.{length-nodes}
 use Rattle.machine.proofs.Scans.{fin-at, fin-past, rd-at, rdK, rdK-done, rdK-one, rdK-two}
 use Rattle.machine.proofs.Becoming.{node-is}
-use Rattle.machine.proofs.Turning.{turns-by, turns-as, turns-state}
+use Rattle.machine.proofs.Turning.{turns-by, turns-state}
 use Rattle.machine.proofs.Standing.{part-id, seq-below}
 
 -- id and a sequence: entering is placing

@@ -1,11 +1,11 @@
 -- A list whose middle parts change places: what opening and closing positions does to the headers.
 use mathlib.Core.Path.{_≡_, refl, sym, ap, _∙_}
 use mathlib.Core.List.{List, [], _∷_, _++_, map, append-assoc, Perm, Perm·append-left, Perm·append-right, perm-append-comm}
-use Prim.Native.Nat.{ℕ, zero, suc, _+_, _-_, _*_, _≤_, _<_}
-use native.Mathlib.Nat.{add-zero, zero-add, suc-add}
+use Prim.Native.Nat.{ℕ, zero, suc, _+_, _-_, _≤_, _<_}
+use native.Mathlib.Nat.{suc-add}
 use native.Mathlib.Omega.{arith}
-use lib.ListN.{length, take, drop, getD, set, length-drop, length-append, length-map, take-append-drop}
-use lib.Seq.{take-at, drop-at, drop-drop, take-add, length-take-le, take-append-le, take-take}
+use lib.ListN.{length, take, drop, getD, set, length-drop, length-append, take-append-drop}
+use lib.Seq.{take-at, drop-at, drop-drop, take-add, length-take-le}
 use Rattle.machine.proofs.Blocks.{moved, set-append-add, map-append, map-take, map-drop}
 use Rattle.machine.specs.Area.{turned}
 

@@ -1,9 +1,9 @@
 -- Positions that become others, in the words of the rules.
-use mathlib.Core.Path.{_≡_, refl, sym, ap, _∙_}
-use mathlib.Core.List.{List, [], _∷_, _++_, map}
-use Prim.Native.Nat.{ℕ, suc, _+_, _-_, _≤_, _<_}
+use mathlib.Core.Path.{_≡_, sym, ap, _∙_}
+use mathlib.Core.List.{List, _++_, map}
+use Prim.Native.Nat.{ℕ, _+_, _≤_}
 use native.Mathlib.Omega.{arith}
-use lib.ListN.{length, take, drop, length-map, length-append}
+use lib.ListN.{length, take, drop, length-map}
 use Rattle.rules.specs.States.{Tree, placed, done, waiting, negated, both}
 use Rattle.machine.specs.Area.{Pos, nodes, Becomes}
 use Rattle.machine.specs.Shown.{Live, flat, meant, state, Turns}

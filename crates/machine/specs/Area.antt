@@ -1,5 +1,5 @@
 -- The working area: 160 headers of 8 words in prefix order, then 160 slots of 128 values; and the positions that it holds.
-use Prim.Native.Nat.{ℕ, zero, suc, _+_, _-_, _*_, _%_, _≤_, _<_}
+use Prim.Native.Nat.{ℕ, zero, suc, _+_, _%_, _≤_, _<_}
 use mathlib.Core.Path.{_≡_}
 use mathlib.Core.List.{List, [], _∷_, _++_, map, List·Mem, List·Nodup}
 use lib.ListN.{length, take, drop, getD}

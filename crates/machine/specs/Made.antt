@@ -2,7 +2,7 @@
 -- `top` and `left` were free positions, of which nothing but the slot is kept.
 use Prim.Native.Nat.{ℕ, _+_, _-_}
 use mathlib.Core.List.{List, [], _∷_, map}
-use lib.ListN.{getD, drop, take, set}
+use lib.ListN.{getD, set}
 use Rattle.rules.specs.Masks.{less}
 use Rattle.rules.specs.Packets.{Packets, keep, lacks, without, gathered}
 use Rattle.rules.specs.Reading.{after}

@@ -9,13 +9,13 @@ use rules::Ran;
 use rules::Refusal;
 use rules::Verdict;
 ghost use mathlib.Core.Path.{_≡_};
-ghost use mathlib.Core.List.{List, [], _∷_, _++_};
+ghost use mathlib.Core.List.{[], _∷_, _++_};
 ghost use mathlib.Core.Bool.{true};
-ghost use Prim.Native.Nat.{ℕ, _+_, _-_, _*_, _%_, _≤_, _<_};
+ghost use Prim.Native.Nat.{_+_, _-_, _*_, _%_, _≤_, _<_};
 ghost use lib.ListN.{length, drop, take, getD, replicate, set};
 ghost use lib.Seq.{paste};
 ghost use Rattle.rules.specs.Masks.{allFields};
-ghost use Rattle.rules.specs.Packets.{Ascending, padded};
+ghost use Rattle.rules.specs.Packets.{Ascending};
 ghost use Rattle.rules.specs.Reading.{after, numberAt, bodyStart, fieldsOf};
 ghost use Rattle.rules.specs.Working.{out};
 ghost use Rattle.rules.specs.States.{join};
@@ -31,8 +31,7 @@ ghost use Rattle.machine.specs.Ready.{fin, rdL, count, nth, marks};
 ghost use Rattle.machine.specs.Shown.{flat, partOf, joinOf, placing, Stands, Readable};
 ghost use Rattle.machine.specs.Shown.{Standing, StandingTwo, Entering, Leaving, Turns, Stepping, Stepped};
 ghost use Rattle.machine.specs.Shown.{Playable, Held, Advancing, Advanced, Played, Ended};
-ghost use Rattle.machine.specs.Made.{Puts, Entered, Settled, seqOf, notOf, sumOf, sidesOf};
-ghost use Rattle.machine.specs.Made.{nextOf, notLeft, joinedOf, bothLeft};
+ghost use Rattle.machine.specs.Made.{Puts, Entered, Settled, seqOf, notOf, sumOf, sidesOf, nextOf, notLeft, joinedOf, bothLeft};
 ghost use Rattle.machine.specs.Answered.{GivenRoom, stopOf, wordsOf};
 
 // The eight words at b.

@@ -1,7 +1,7 @@
 -- The two examples of document 01, "The run printer", computed from the definition.
-use Prim.Native.Nat.{ℕ, _+_, _*_, _/_, _%_}
+use Prim.Native.Nat.{ℕ}
 use mathlib.Core.Path.{_≡_, refl}
-use mathlib.Core.List.{List, [], _∷_, _++_}
+use mathlib.Core.List.{List, [], _∷_}
 use Rattle.rules.specs.Masks.{has, apart, within, less}
 use Rattle.rules.specs.Packets.{padded, passes, put, mix, orderOf, insert, union, keep, member, pairsInto, valuesOf}
 use Rattle.rules.specs.Parts.{write, parts, deep, namesOpen}

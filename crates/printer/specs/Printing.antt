@@ -10,7 +10,7 @@ use Rattle.rules.specs.declared.Verdict.{Verdict}
 use Rattle.rules.specs.declared.Verdict.the-variants.{Accepted, Refused}
 use Rattle.rules.specs.declared.Ran.{Ran}
 use Rattle.rules.specs.declared.Ran.the-variants.{Finished, Running, NotRun}
-use Rattle.rules.specs.Packets.{Packet, Packets, mostPackets}
+use Rattle.rules.specs.Packets.{Packets, mostPackets}
 use Rattle.rules.specs.Books.{mostBytes}
 use Rattle.rules.specs.Reading.{numberAt, fieldsOf, verdict}
 use Rattle.rules.specs.States.{finish, run}

@@ -9,7 +9,6 @@ use rules::Finish;
 use rules::Progress;
 use rules::Refusal;
 ghost use Prim.Native.Nat.{_*_, _≤_};
-ghost use mathlib.Core.Path.{_≡_};
 ghost use mathlib.Core.List.{_++_};
 ghost use lib.ListN.{length};
 ghost use Rattle.printer.specs.Printing.{blankThen, valuesLine, refusedLine};

@@ -8,9 +8,8 @@ use Rattle.rules.specs.Masks.{less, Sub}
 use Rattle.rules.specs.Packets.{Packets, without}
 use Rattle.rules.specs.Parts.{Part, Id, Drop, Test, Set, Not, Sum, Seq, Beside, Table, Open, size}
 use Rattle.rules.specs.Typing.{tested, written, Right}
-use Rattle.rules.specs.States.{Spot, on, moved, losing, Join, entered, split, paired, Tree, placed, done, waiting}
-use Rattle.rules.specs.States.{negated, both, place, enter, finish, leave, next, ready, move, run, used, lacking}
-use Rattle.rules.specs.States.{stuckSteps, stuckIn}
+use Rattle.rules.specs.States.{Spot, on, moved, losing, Join, entered, split, paired, Tree}
+use Rattle.rules.specs.States.{place, enter, finish, leave, next, ready, move, run, used, lacking, stuckSteps, stuckIn}
 use Rattle.rules.specs.Fields.{Holds, Later, same, second, body, Stands, here, ended, first, under, summed, parted, sides, Has}
 use Rattle.rules.proofs.Lists.{All, none, also, all-append, all-map, all-or}
 use Rattle.rules.proofs.MaskLaws.{has-zero, sub-or-l, sub-or-r, less-in}

@@ -3,10 +3,9 @@
 ghost use mathlib.Core.Path.{_≡_};
 ghost use mathlib.Core.Bool.{true};
 ghost use mathlib.Core.List.{[], map};
-ghost use Prim.Native.Nat.{_+_, _*_, _<_, _≤_};
+ghost use Prim.Native.Nat.{_+_, _<_, _≤_};
 ghost use lib.ListN.{length, drop};
 ghost use Rattle.rules.specs.Packets.{Ascending, passes, put, keep, gathered, union, lacks, mix, pairs};
-ghost use Rattle.rules.specs.Masks.{has};
 ghost use Rattle.rows.specs.Chunks.{chunks, rowAt, Packed, Held, Fits};
 ghost use Rattle.rows.specs.Arrays.{Written};
 ghost use Rattle.sets.specs.Inserts.{Placed, Shifted, Inserted, Joined, toFirst};

@@ -1,7 +1,6 @@
 -- When the answers of the three calls, and every lent word after them, are what a vector states. The answers are those of the rules:
 -- the calls' own contracts say that they give no other.
 use Prim.Native.Nat.{ℕ}
-use mathlib.Core.Path.{_≡_}
 use mathlib.Core.Bool.{Bool, true, false, _&&_}
 use mathlib.Core.List.{List, [], _∷_}
 use lib.Dec.{eqb}

@@ -1,5 +1,5 @@
 // Reading a vector: its numbers, words and parts. All is total: past the end of the bytes there are zeros.
-ghost use Prim.Native.Nat.{_+_, _*_, _≤_, _<_};
+ghost use Prim.Native.Nat.{_≤_, _<_};
 ghost use mathlib.Core.Path.{_≡_};
 ghost use lib.ListN.{take, drop};
 ghost use Rattle.rules.specs.Reading.{numberAt};

@@ -9,8 +9,7 @@ use Rattle.rules.specs.declared.Sizes.{Sizes}
 use Rattle.rules.specs.declared.Verdict.the-variants.{Accepted}
 use Rattle.rules.specs.Parts.{Part, Not, Sum, Seq, Beside, write, size}
 use Rattle.rules.specs.Books.{Scope, scopeOf, Fine, mostDepth, bytesOf, entries, Bytes}
-use Rattle.rules.specs.Reading.{fieldsOf, tablesOf, bodyStart, useAt, mainOf}
-use Rattle.rules.specs.Reading.{policyOf, verdict}
+use Rattle.rules.specs.Reading.{fieldsOf, tablesOf, bodyStart, useAt, mainOf, policyOf, verdict}
 use Rattle.rules.proofs.Decoding.{reads, drop-head}
 use Rattle.rules.proofs.Whole.{entries-read}
 use Rattle.rules.proofs.AcceptedBooks.{accepted-readable}

@@ -1,7 +1,7 @@
 -- `all_populated` meets its contract: the loop keeps that the tables before x are populated. Assumes nothing.
 use Prim.Native.Nat.{suc, _-_, _≤_}
 use native.Mathlib.Omega.{arith}
-use mathlib.Core.Path.{_≡_, sym, _∙_}
+use mathlib.Core.Path.{_≡_, _∙_}
 use mathlib.Core.Bool.{false≢true}
 use borrow.Author.Needs.{needs}
 use Rattle.rules.specs.Reading.{tablesOf}

@@ -1,6 +1,6 @@
 -- `names_open` meets its contract: no table is open where all are populated; else the walk tells. Assumes nothing.
 use borrow.Author.Needs.{needs}
-use mathlib.Core.Path.{_≡_, sym}
+use mathlib.Core.Path.{sym}
 use Rattle.evaluator.proofs.Opening.{all-closed}
 use Rattle.evaluator.proofs.Answering.{open-is}
 use Rattle.evaluator.proofs.names_open.Statement.{statement}

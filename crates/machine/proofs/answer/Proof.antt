@@ -1,7 +1,6 @@
 use borrow.Author.Needs.{needs}
 use denote.Ref.{now}
 use mathlib.Core.Path.{refl}
-use native.Mathlib.Omega.{arith}
 use Rattle.machine.proofs.Ending.{running-answer, can-read, finished-answer, finished-result}
 use Rattle.machine.specs.Area.{here}
 use Rattle.rules.specs.Answers.{start}

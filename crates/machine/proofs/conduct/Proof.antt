@@ -1,7 +1,6 @@
 use borrow.Author.Needs.{needs}
 use denote.Ref.{now}
 use mathlib.Core.Path.{_∙_}
-use native.Mathlib.Omega.{arith}
 use Rattle.machine.proofs.Ending.{cleared}
 use Rattle.machine.proofs.Choosing.{held-now}
 use Rattle.machine.proofs.conduct.Statement.{statement}

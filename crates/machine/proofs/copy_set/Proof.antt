@@ -4,13 +4,6 @@ use denote.Ref.{now}
 use borrow.Author.Needs.{needs}
 use Rattle.machine.proofs.copy_set.Statement.{statement}
 use Rattle.machine.proofs.copy_set.Tie as tie
-use Rattle.machine.proofs.copy_set.Reads as reads
-use Rattle.machine.proofs.copy_set.Lts as lts
-use Rattle.machine.proofs.copy_words.Reads as copy-words-reads
-use Rattle.machine.proofs.count_at.Reads as count-at-reads
-use Rattle.machine.proofs.head.Reads as head-reads
-use Rattle.machine.proofs.put_head.Reads as put-head-reads
-use Rattle.machine.proofs.slot_at.Reads as slot-at-reads
 
 head-requires : tie.Need-head-requires
 head-requires c κs = search needs

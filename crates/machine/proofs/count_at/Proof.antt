@@ -5,9 +5,6 @@ use denote.Ref.{now}
 use borrow.Author.Needs.{needs}
 use Rattle.machine.proofs.count_at.Statement.{statement}
 use Rattle.machine.proofs.count_at.Tie as tie
-use Rattle.machine.proofs.count_at.Reads as reads
-use Rattle.machine.proofs.count_at.Lts as lts
-use Rattle.machine.proofs.wide.Reads as wide-reads
 
 mul-wide : tie.Need-mul-wide
 mul-wide c = search needs

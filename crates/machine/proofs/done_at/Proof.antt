@@ -1,12 +1,9 @@
-use mathlib.Core.Path.{_≡_, refl, sym, ap, _∙_}
+use mathlib.Core.Path.{sym}
 use native.Mathlib.Omega.{arith}
-use denote.Ref.{now}
 use Rattle.machine.proofs.Scans.{fin-at, fin-past}
 use borrow.Author.Needs.{needs}
 use Rattle.machine.proofs.done_at.Statement.{statement}
 use Rattle.machine.proofs.done_at.Tie as tie
-use Rattle.machine.proofs.done_at.Reads as reads
-use Rattle.machine.proofs.done_at.Lts as lts
 
 returns : tie.Need-returns
 returns c = let a = c .before .args in sym (fin-past _ a.live (omega arith) a.i (omega arith))

@@ -1,6 +1,5 @@
 use borrow.Author.Needs.{needs}
 use denote.Ref.{now}
-use native.Mathlib.Omega.{arith}
 use Rattle.machine.proofs.Entering.{not-fits, not-place, not-next, not-entered}
 use Rattle.machine.proofs.enter_not.Statement.{statement}
 use Rattle.machine.proofs.enter_not.Tie as tie

@@ -1,6 +1,5 @@
 use borrow.Author.Needs.{needs}
 use denote.Ref.{now}
-use native.Mathlib.Omega.{arith}
 use Rattle.machine.proofs.Beside.{side-fits, side-places, side-next, side-entered}
 use Rattle.machine.proofs.enter_sides.Statement.{statement}
 use Rattle.machine.proofs.enter_sides.Tie as tie

@@ -1,6 +1,5 @@
 use borrow.Author.Needs.{needs}
 use denote.Ref.{now}
-use native.Mathlib.Omega.{arith}
 use Rattle.machine.proofs.Entering.{sum-fits, sum-places, sum-next, sum-entered}
 use Rattle.machine.proofs.enter_sum.Statement.{statement}
 use Rattle.machine.proofs.enter_sum.Tie as tie

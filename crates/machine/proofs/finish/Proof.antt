@@ -5,11 +5,6 @@ use denote.Ref.{now}
 use borrow.Author.Needs.{needs}
 use Rattle.machine.proofs.finish.Statement.{statement}
 use Rattle.machine.proofs.finish.Tie as tie
-use Rattle.machine.proofs.finish.Reads as reads
-use Rattle.machine.proofs.finish.Lts as lts
-use Rattle.machine.proofs.mark.Reads as mark-reads
-use Rattle.machine.proofs.put_set.Reads as put-set-reads
-use Rattle.machine.proofs.spot_at.Reads as spot-at-reads
 
 spot-at-requires : tie.Need-spot-at-requires
 spot-at-requires c κs = search needs

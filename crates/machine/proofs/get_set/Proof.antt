@@ -1,15 +1,9 @@
-use mathlib.Core.Path.{_≡_, refl, sym, ap, _∙_}
 use native.Mathlib.Omega.{arith}
 use denote.Ref.{now}
-use Rattle.machine.proofs.Acts.{got-set, has-put, has-copied}
+use Rattle.machine.proofs.Acts.{got-set}
 use borrow.Author.Needs.{needs}
 use Rattle.machine.proofs.get_set.Statement.{statement}
 use Rattle.machine.proofs.get_set.Tie as tie
-use Rattle.machine.proofs.get_set.Reads as reads
-use Rattle.machine.proofs.get_set.Lts as lts
-use Rattle.machine.proofs.count_at.Reads as count-at-reads
-use Rattle.machine.proofs.load_front.Reads as load-front-reads
-use Rattle.machine.proofs.slot_at.Reads as slot-at-reads
 
 slot-at-requires : tie.Need-slot-at-requires
 slot-at-requires c κs = search needs

@@ -1,13 +1,9 @@
-use mathlib.Core.Path.{_≡_, refl, sym, ap, _∙_}
 use native.Mathlib.Omega.{arith}
 use denote.Ref.{now}
 use Rattle.machine.proofs.Acts.{head-read}
 use borrow.Author.Needs.{needs}
 use Rattle.machine.proofs.head.Statement.{statement}
 use Rattle.machine.proofs.head.Tie as tie
-use Rattle.machine.proofs.head.Reads as reads
-use Rattle.machine.proofs.head.Lts as lts
-use Rattle.machine.proofs.read8.Reads as read8-reads
 
 mul-read8 : tie.Need-mul-read8
 mul-read8 c = search needs

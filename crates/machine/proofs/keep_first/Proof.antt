@@ -4,10 +4,6 @@ use denote.Ref.{now}
 use borrow.Author.Needs.{needs}
 use Rattle.machine.proofs.keep_first.Statement.{statement}
 use Rattle.machine.proofs.keep_first.Tie as tie
-use Rattle.machine.proofs.keep_first.Reads as reads
-use Rattle.machine.proofs.keep_first.Lts as lts
-use Rattle.machine.proofs.head.Reads as head-reads
-use Rattle.machine.proofs.put_head.Reads as put-head-reads
 
 head-requires : tie.Need-head-requires
 head-requires c κs = search needs

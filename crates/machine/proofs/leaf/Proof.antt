@@ -5,13 +5,6 @@ use denote.Ref.{now}
 use borrow.Author.Needs.{needs}
 use Rattle.machine.proofs.leaf.Statement.{statement}
 use Rattle.machine.proofs.leaf.Tie as tie
-use Rattle.machine.proofs.leaf.Reads as reads
-use Rattle.machine.proofs.leaf.Lts as lts
-use Rattle.book.proofs.byte_at.Reads as byte-at-reads
-use Rattle.machine.proofs.word_at.Reads as word-at-reads
-use Rattle.packets.proofs.empty.Reads as empty-reads
-use Rattle.packets.proofs.set_field.Reads as set-field-reads
-use Rattle.packets.proofs.test.Reads as test-reads
 
 empty-requires : tie.Need-empty-requires
 empty-requires c κs = search needs

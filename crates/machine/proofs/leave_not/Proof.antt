@@ -1,6 +1,5 @@
 use borrow.Author.Needs.{needs}
 use denote.Ref.{now}
-use native.Mathlib.Omega.{arith}
 use Rattle.machine.proofs.Leaving.{not-left}
 use Rattle.machine.proofs.leave_not.Statement.{statement}
 use Rattle.machine.proofs.leave_not.Tie as tie

@@ -1,15 +1,13 @@
-use mathlib.Core.Path.{_≡_, refl, sym, ap, _∙_}
+use mathlib.Core.Path.{_≡_, refl}
 use native.Mathlib.Omega.{arith}
 use denote.Ref.{now}
-use Prim.Native.Nat.{_+_, _≤_, _<_, _-_}
-use mathlib.Core.List.{List, _++_}
+use Prim.Native.Nat.{_≤_, _-_}
+use mathlib.Core.List.{_++_}
 use lib.ListN.{length, take, drop, replicate, length-set}
 use Rattle.machine.proofs.Acts.{load-turn}
 use borrow.Author.Needs.{needs}
 use Rattle.machine.proofs.load_front.Statement.{statement}
 use Rattle.machine.proofs.load_front.Tie as tie
-use Rattle.machine.proofs.load_front.Reads as reads
-use Rattle.machine.proofs.load_front.Lts as lts
 
 abbrev Inv-loop : tie.InvT-loop
 Inv-loop area at n v₀ i₀ v i = (i ≤ n) × (length v ≡ 128) × (v ≡ take i (drop at area) ++ replicate (128 - i) 0)

@@ -5,10 +5,6 @@ use Prim.Native.Nat.{_<_}
 use borrow.Author.Needs.{needs}
 use Rattle.machine.proofs.mark.Statement.{statement}
 use Rattle.machine.proofs.mark.Tie as tie
-use Rattle.machine.proofs.mark.Reads as reads
-use Rattle.machine.proofs.mark.Lts as lts
-use Rattle.machine.proofs.head.Reads as head-reads
-use Rattle.machine.proofs.put_head.Reads as put-head-reads
 
 head-requires : tie.Need-head-requires
 head-requires c κs = search needs

@@ -1,14 +1,11 @@
 use mathlib.Core.Path.{_≡_, refl, ap, _∙_}
-use Prim.Native.Nat.{ℕ, _+_, _-_, _≤_}
+use Prim.Native.Nat.{_-_, _≤_}
 use native.Mathlib.Omega.{arith}
 use lib.ListN.{length, length-set}
 use denote.Ref.{now}
-use borrow.Author.Needs.{needs}
-use Rattle.machine.proofs.Blocks.{moved, moved-eq, moved-none, length-moved, up-turn, down-turn}
+use Rattle.machine.proofs.Blocks.{moved, moved-none, down-turn}
 use Rattle.machine.proofs.move_down.Statement.{statement}
 use Rattle.machine.proofs.move_down.Tie as tie
-use Rattle.machine.proofs.move_down.Reads as reads
-use Rattle.machine.proofs.move_down.Lts as lts
 
 abbrev Inv-loop : tie.InvT-loop
 Inv-loop work₀ from to n j₀ work j = (j ≤ n) × (length work ≡ length work₀) × (work ≡ moved work₀ from to j)

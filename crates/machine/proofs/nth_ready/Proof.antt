@@ -1,19 +1,14 @@
 use borrow.Author.Needs.{needs}
-use mathlib.Core.Path.{_≡_, sym, ap, _∙_}
+use mathlib.Core.Path.{_≡_, ap}
 use mathlib.Core.Logic.{⊎-elim}
-use mathlib.Core.Bool.{true, false}
 use Prim.Native.Nat.{ℕ, _+_, _-_, _≤_}
-use native.Mathlib.Numerals.{add-one}
 use native.Mathlib.Omega.{arith}
 use denote.Ref.{now}
-use lib.ListN.{length, drop}
-use Rattle.machine.specs.Ready.{nth, nthB, rdL, marks}
+use lib.ListN.{drop}
+use Rattle.machine.specs.Ready.{nth, marks}
 use Rattle.machine.proofs.Scans.{nth-skip, nth-here, nth-next, nth-end}
 use Rattle.machine.proofs.nth_ready.Statement.{statement}
 use Rattle.machine.proofs.nth_ready.Tie as tie
-use Rattle.machine.proofs.nth_ready.Reads as reads
-use Rattle.machine.proofs.nth_ready.Lts as lts
-use Rattle.machine.proofs.ready_at.Reads as ready-at-reads
 
 abbrev Inv-loop : tie.InvT-loop
 Inv-loop work live k left₀ i₀ left i = (i ≤ live) × (i + nth left (drop i (marks work live)) ≡ nth k (marks work live))

@@ -3,7 +3,6 @@ use borrow.Author.Needs.{needs}
 use denote.Ref.{now}
 use lib.ListN.{length}
 use mathlib.Core.Path.{refl}
-use native.Mathlib.Omega.{arith}
 use Rattle.machine.proofs.Playing.{Playing, play-starts, can-advance, play-turns, play-ends, play-over}
 use Rattle.rules.specs.Answers.{start}
 use Rattle.machine.proofs.play.Statement.{statement}

@@ -1,4 +1,4 @@
-use mathlib.Core.Path.{_≡_, refl, sym, ap, _∙_}
+use mathlib.Core.Path.{_≡_}
 use native.Mathlib.Omega.{arith}
 use denote.Ref.{now}
 use lib.ListN.{length}
@@ -6,9 +6,6 @@ use Rattle.machine.proofs.Acts.{put-stored}
 use borrow.Author.Needs.{needs}
 use Rattle.machine.proofs.put_head.Statement.{statement}
 use Rattle.machine.proofs.put_head.Tie as tie
-use Rattle.machine.proofs.put_head.Reads as reads
-use Rattle.machine.proofs.put_head.Lts as lts
-use Rattle.machine.proofs.write8.Reads as write8-reads
 
 mul-write8 : tie.Need-mul-write8
 mul-write8 c = search needs

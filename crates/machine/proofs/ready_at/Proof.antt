@@ -1,13 +1,10 @@
-use mathlib.Core.Path.{_≡_, refl, sym, ap, _∙_}
+use mathlib.Core.Path.{sym, _∙_}
 use native.Mathlib.Omega.{arith}
 use denote.Ref.{now}
 use Rattle.machine.proofs.Scans.{rd-at, rdK-rest, rdK-done, rdK-one, rdK-two, and-true, and-false}
 use borrow.Author.Needs.{needs}
 use Rattle.machine.proofs.ready_at.Statement.{statement}
 use Rattle.machine.proofs.ready_at.Tie as tie
-use Rattle.machine.proofs.ready_at.Reads as reads
-use Rattle.machine.proofs.ready_at.Lts as lts
-use Rattle.machine.proofs.done_at.Reads as done-at-reads
 
 mul-k : tie.Need-mul-k
 mul-k c = search needs

@@ -1,7 +1,7 @@
 -- `refusal_of` meets its contract: the numbers in document 01's order, the evaluator's last.
 use borrow.Author.Needs.{needs}
 use denote.Ref.{now}
-use mathlib.Core.Path.{_≡_, sym, _∙_}
+use mathlib.Core.Path.{sym, _∙_}
 use native.Mathlib.Omega.{arith}
 use Rattle.machine.proofs.Running.{fields-are, refused-book, refused-packet, refused-result, refused-area, refused-evaluated}
 use Rattle.machine.proofs.refusal_of.Statement.{statement}

@@ -1,12 +1,8 @@
 use Rattle.machine.proofs.Entering.{right-stands, left-stands, two-settled}
-use native.Mathlib.Omega.{arith}
 use denote.Ref.{now}
 use borrow.Author.Needs.{needs}
 use Rattle.machine.proofs.settle_two.Statement.{statement}
 use Rattle.machine.proofs.settle_two.Tie as tie
-use Rattle.machine.proofs.settle_two.Reads as reads
-use Rattle.machine.proofs.settle_two.Lts as lts
-use Rattle.machine.proofs.settle.Reads as settle-reads
 
 add-settle : tie.Need-add-settle
 add-settle c = search needs

@@ -1,12 +1,9 @@
-use mathlib.Core.Path.{_≡_, refl, sym, ap, _∙_}
 use native.Mathlib.Omega.{arith}
 use denote.Ref.{now}
-use Rattle.machine.proofs.Acts.{slot-from, count-from}
+use Rattle.machine.proofs.Acts.{slot-from}
 use borrow.Author.Needs.{needs}
 use Rattle.machine.proofs.slot_at.Statement.{statement}
 use Rattle.machine.proofs.slot_at.Tie as tie
-use Rattle.machine.proofs.slot_at.Reads as reads
-use Rattle.machine.proofs.slot_at.Lts as lts
 
 mul-s : tie.Need-mul-s
 mul-s c = search needs

@@ -2,18 +2,12 @@ use Rattle.machine.proofs.Placing.{seq-opened}
 use Rattle.machine.specs.Area.{here}
 use Rattle.rules.specs.Reading.{after}
 use mathlib.Core.Path.{_≡_, _∙_, ap}
-use Prim.Native.Nat.{_+_, _<_}
+use Prim.Native.Nat.{_+_}
 use native.Mathlib.Omega.{arith}
 use denote.Ref.{now}
 use borrow.Author.Needs.{needs}
 use Rattle.machine.proofs.split_seq.Statement.{statement}
 use Rattle.machine.proofs.split_seq.Tie as tie
-use Rattle.machine.proofs.split_seq.Reads as reads
-use Rattle.machine.proofs.split_seq.Lts as lts
-use Rattle.book.proofs.place_after.Reads as place-after-reads
-use Rattle.machine.proofs.mark.Reads as mark-reads
-use Rattle.machine.proofs.open_one.Reads as open-one-reads
-use Rattle.machine.proofs.spot_at.Reads as spot-at-reads
 
 spot-at-requires : tie.Need-spot-at-requires
 spot-at-requires c κs = search needs

@@ -3,9 +3,6 @@ use denote.Ref.{now}
 use borrow.Author.Needs.{needs}
 use Rattle.machine.proofs.spot_at.Statement.{statement}
 use Rattle.machine.proofs.spot_at.Tie as tie
-use Rattle.machine.proofs.spot_at.Reads as reads
-use Rattle.machine.proofs.spot_at.Lts as lts
-use Rattle.machine.proofs.head.Reads as head-reads
 
 head-requires : tie.Need-head-requires
 head-requires c κs = search needs

@@ -1,6 +1,5 @@
 use borrow.Author.Needs.{needs}
 use denote.Ref.{now}
-use native.Mathlib.Omega.{arith}
 use Rattle.machine.proofs.Stepping.{can-enter, entered-step, can-take, taken-step, can-leave-not, not-step, can-leave-both}
 use Rattle.machine.proofs.Stepping.{both-step}
 use Rattle.machine.proofs.step.Statement.{statement}

@@ -1,4 +1,4 @@
-use mathlib.Core.Path.{_≡_, refl, sym, ap, _∙_}
+use mathlib.Core.Path.{_≡_, refl, _∙_}
 use native.Mathlib.Omega.{arith}
 use denote.Ref.{now}
 use Prim.Native.Nat.{_≤_, _-_}
@@ -8,8 +8,6 @@ use lib.Seq.{paste, paste-zero, paste-suc}
 use borrow.Author.Needs.{needs}
 use Rattle.machine.proofs.store_front.Statement.{statement}
 use Rattle.machine.proofs.store_front.Tie as tie
-use Rattle.machine.proofs.store_front.Reads as reads
-use Rattle.machine.proofs.store_front.Lts as lts
 
 abbrev Inv-loop : tie.InvT-loop
 Inv-loop area₀ at v n i₀ area i = (i ≤ n) × (length area ≡ length area₀) × (area ≡ paste area₀ at v i)

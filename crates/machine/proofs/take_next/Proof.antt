@@ -1,6 +1,5 @@
 use borrow.Author.Needs.{needs}
 use denote.Ref.{now}
-use native.Mathlib.Omega.{arith}
 use Rattle.machine.proofs.Leaving.{taken-stands, taken-next}
 use Rattle.machine.proofs.take_next.Statement.{statement}
 use Rattle.machine.proofs.take_next.Tie as tie

@@ -3,8 +3,6 @@ use lib.ListN.{length-set}
 use borrow.Author.Needs.{needs}
 use Rattle.machine.proofs.write8.Statement.{statement}
 use Rattle.machine.proofs.write8.Tie as tie
-use Rattle.machine.proofs.write8.Reads as reads
-use Rattle.machine.proofs.write8.Lts as lts
 
 array-read-work : tie.Need-array-read-work
 array-read-work c = search needs

@@ -1,6 +1,4 @@
 -- The packets written where they stand; where they do not ascend then, they are gathered anew.
-use mathlib.Core.Path.{_≡_}
-use native.Mathlib.Omega.{arith}
 use Rattle.sets.proofs.Ascents.{ascends-short}
 use Rattle.sets.proofs.Writing.{none-written, written-held, written-cleared, written-anew}
 use borrow.Author.Needs.{needs}
