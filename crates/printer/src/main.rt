@@ -2,6 +2,7 @@
 mod lines;
 mod text;
 
+use libc::STDERR_FILENO;
 use libc::STDIN_FILENO;
 use libc::STDOUT_FILENO;
 use lines::finished;
@@ -96,12 +97,17 @@ pub fn print_run(input: &[u8]) -> Text
     }
 }
 
-// Reads as much as decides what is printed: 2 + 4,096 + 16 + 8,193 bytes.
+// Reads as much as decides what is printed: 2 + 4,096 + 16 + 8,193 bytes. A failed write is said, since a program has no status to tell it.
 fn main() {
     let mut input = [0u8; 12307];
     let n = io::read_full(STDIN_FILENO, &mut input);
     let t = print_run(&input[..n]);
     let bytes = t.bytes;
     let len = t.len;
-    io::write_all(STDOUT_FILENO, &bytes[..len]);
+    if !io::write_all(STDOUT_FILENO, &bytes[..len]) {
+        io::write_all(
+            STDERR_FILENO,
+            b"printer: the answer could not be written to standard output\n",
+        );
+    }
 }

@@ -5,10 +5,10 @@ use Rattle.trials.proofs.print_numbers.Statement.{statement}
 use Rattle.trials.proofs.print_numbers.Tie as tie
 
 abbrev Inv-loop : tie.InvT-loop
-Inv-loop set name call number₀ t5 number = number ≤ 15
+Inv-loop set name call written₀ number₀ t6 written number = number ≤ 15
 
 abbrev μ-loop : tie.MeasureT-loop
-μ-loop set name call number₀ t5 number = 15 - number
+μ-loop set name call written₀ number₀ t6 written number = 15 - number
 
 pub print-numbers-spec : {M : Type 1} → statement M
 print-numbers-spec =
@@ -24,4 +24,5 @@ print-numbers-spec =
     (λ c. search needs)
     (λ c. search needs)
     (λ c κs. search needs)
+    (λ c. search needs)
     (λ c. search needs))
