@@ -1,12 +1,9 @@
-/* Policy books for C programs: accept, evaluate and run, as document 01 defines them.
+/* Policy books for C programs: accept, evaluate and run. docs/FORMAT.md tells how a book is written and what the words mean.
  *
- * Link target/staticlib/libexports.a, which `rt staticlib exports` writes; it needs only memcpy and memset of the C library.
- * Every answer below is proved of the compiled functions' source: crates/exports/src has the contracts.
+ * Link target/staticlib/libexports.a, which `rt staticlib exports` writes, code for Linux on x86-64; it needs only memcpy and memset
+ * of the C library. Every answer below is proved of the compiled functions' source: crates/exports/src has the contracts.
  *
- * Each function takes buffers as a pointer and a length, counted in elements, keeps no pointer, has no state and asks for no
- * memory. A pointer may be any non-null pointer where its length is 0. Buffers that are written must not overlap others.
- *
- * Each returns a code and puts values in the first words that are lent for them; the words after these are kept.
+ * Each function returns a code and puts values in the first words that are lent for them; the words after these are kept.
  *
  *   code                      values
  *   HAMSTEDEW_ANSWERED        as told at each function
@@ -15,6 +12,21 @@
  *   HAMSTEDEW_TOO_FEW_WORDS   none: fewer than HAMSTEDEW_VALUES words are lent for the values, and nothing is done
  *
  * A call that is turned away changes no word of the result or of the working area.
+ *
+ * What a caller must know:
+ *
+ * - Buffers. Each is a pointer and a length, counted in elements. Where the length is 0 the pointer may be null. Words are in the
+ *   machine's own byte order and aligned as C aligns their type; only inside a book do numbers have the high byte first.
+ * - Overlap. A buffer that is written (result, area, values) must not share memory with any other buffer of the call: the contracts
+ *   take them to be apart, and nothing is said of what a call does where they are not. Buffers that are only read may be the same.
+ * - Memory. No function keeps a pointer, has state, or asks for memory; calls in several threads do not disturb each other as long as
+ *   none writes a buffer that another uses.
+ * - Stack. Measured by bench/stack on books that nest as deep as the rules allow: accept takes up to 13.3 KiB, evaluate 98.8 KiB, run
+ *   100.8 KiB. A thread with a stack of 128 KiB has enough for any of them; how much is left is not looked at.
+ * - Time. accept takes time in proportion to the book. evaluate does not: N, its number of steps, is up to 4 n 16^D, and a book of
+ *   1,155 bytes makes one packet cost 62,748,530 steps on up to 16 packets each, many seconds (docs/SPEED.md). run asks evaluate first,
+ *   so that it takes as long, also where it then turns the call away. Nothing ends a call early. Who takes books from strangers calls
+ *   accept and refuses what has a large n 16^D, or runs the call where it can be given up.
  */
 #ifndef HAMSTEDEW_H
 #define HAMSTEDEW_H
@@ -29,11 +41,16 @@ extern "C" {
 /* Words to lend for the values of any answer. */
 #define HAMSTEDEW_VALUES 5
 
-/* Limits of document 01: bytes of a book, fields, tables, packets of a set. */
+/* Limits: bytes of a book, fields (k), tables (m), levels of a body, parts of the main policy (n), concurrent parts on a path down (D),
+ * packets of a set, positions of a run. */
 #define HAMSTEDEW_MOST_BYTES 4096
 #define HAMSTEDEW_MOST_FIELDS 8
 #define HAMSTEDEW_MOST_TABLES 15
+#define HAMSTEDEW_MOST_DEPTH 32
+#define HAMSTEDEW_MOST_PARTS 1023
+#define HAMSTEDEW_MOST_CONCURRENT 4
 #define HAMSTEDEW_MOST_PACKETS 16
+#define HAMSTEDEW_MOST_POSITIONS 160
 
 /* Words of a run's working area. */
 #define HAMSTEDEW_AREA_WORDS 21760

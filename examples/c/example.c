@@ -1,4 +1,5 @@
-/* The 17-byte book of document 01: field 0 set to 1 beside field 1 set to 2. Prints the verdict, the packets for (5, 9), and a run. */
+/* The 17-byte book that docs/FORMAT.md takes apart: field 0 set to 1 beside field 1 set to 2. Prints the verdict, the packets for
+ * (5, 9), a run cut short and a whole one, and what is answered where nothing is lent. */
 #include <inttypes.h>
 #include <stdio.h>
 
@@ -10,6 +11,22 @@ static const uint8_t book[] = {0x02, 0x00, 0x00, 0x0B, 0x00, 0x03, 0x07, 0x01, 0
 static int refused(uint64_t code, const uint64_t *values) {
     printf("refused %" PRIu64 " %" PRIu64 "\n", code, values[0]);
     return 1;
+}
+
+/* Where a length is 0 the pointer may be null: each call is answered by its code. */
+static void lend_nothing(void) {
+    const uint16_t packet[] = {5, 9};
+    uint16_t result[32], area[1];
+    uint64_t values[HAMSTEDEW_VALUES];
+    const size_t all = HAMSTEDEW_VALUES;
+    uint64_t no_book = hamstedew_accept(NULL, 0, values, all);
+    uint64_t no_values = hamstedew_accept(book, sizeof book, NULL, 0);
+    uint64_t no_packet = hamstedew_evaluate(book, sizeof book, NULL, 0, result, 32, values, all);
+    uint64_t no_result = hamstedew_evaluate(book, sizeof book, packet, 2, NULL, 0, values, all);
+    uint64_t no_area = hamstedew_run(book, sizeof book, packet, 2, NULL, 0, result, 32, NULL, 0, values, all);
+    uint64_t nothing = hamstedew_run(NULL, 0, NULL, 0, NULL, 0, NULL, 0, area, 0, NULL, 0);
+    printf("null: %" PRIu64 " %" PRIu64 " %" PRIu64 " %" PRIu64 " %" PRIu64 " %" PRIu64 "\n", no_book, no_values, no_packet, no_result,
+           no_area, nothing);
 }
 
 int main(void) {
@@ -44,5 +61,10 @@ int main(void) {
         else
             return refused(code, values);
     }
+    code = hamstedew_run(book, sizeof book, packet, 2, NULL, 0, result, sizeof result / sizeof *result, area, HAMSTEDEW_AREA_WORDS, values,
+                         HAMSTEDEW_VALUES);
+    printf("no schedule: code %" PRIu64 ", steps %" PRIu64 ", live %" PRIu64 ", ready %" PRIu64 "\n", code, values[0], values[1],
+           values[2]);
+    lend_nothing();
     return 0;
 }
