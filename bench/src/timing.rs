@@ -39,6 +39,12 @@ pub fn compare(rounds: usize, mut ours: impl FnMut(), mut theirs: impl FnMut()) 
     }
 }
 
+/// One call of each, for calls that take seconds.
+pub fn once(mut ours: impl FnMut(), mut theirs: impl FnMut()) -> Times {
+    let (ours, theirs) = (nanoseconds(&mut ours, 1), nanoseconds(&mut theirs, 1));
+    Times { ours, theirs, ratio: ours / theirs, half: None }
+}
+
 /// Twice as many calls until they take long enough to say how many a batch has.
 fn calls_a_batch(call: &mut impl FnMut()) -> u64 {
     let mut calls = 1;

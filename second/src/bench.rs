@@ -69,6 +69,36 @@ pub fn hostile_books() -> Vec<Hostile> {
     ]
 }
 
+/// A book and a packet that keep the evaluator busy.
+pub struct Heavy {
+    pub name: &'static str,
+    pub book: Vec<u8>,
+    pub packet: Vec<u16>,
+}
+
+/// Accepted books with the most work that we know of, N over 60 million: on no packets, and on 16 packets that are told
+/// apart by the last of 8 fields.
+pub fn heavy_books() -> Vec<Heavy> {
+    let dropped = balanced(sequence, &vec![Policy::Drop; 475]);
+    let joined = sequence(sixteen_in_the_last_fields(), balanced(sum, &vec![Policy::Id; 467]));
+    let heavy =
+        |name, inside| Heavy { name, book: book_of(8, &sixteen_four_times(inside)), packet: vec![9; 8] };
+    vec![heavy("65,536 times on none", dropped), heavy("65,536 times on 16", joined)]
+}
+
+/// Fields 4 to 7 each (to 0 + to 1), in sequence.
+fn sixteen_in_the_last_fields() -> Policy {
+    let fields: Vec<Policy> = (4..8).map(|field| sum(set(field, 0), set(field, 1))).collect();
+    chained(sequence, &fields)
+}
+
+/// Four concurrent parts one in the other, each handed 16 packets: what is inside is worked through 16 to the fourth
+/// times.
+fn sixteen_four_times(inside: Policy) -> Policy {
+    let again = |below| sequence(sixteen_in_the_last_fields(), beside(0xF0, 0, below, Policy::Id));
+    (0..4).fold(inside, |below, _| again(below))
+}
+
 /// Two unused tables, each 22 concurrent parts one in the other above a full tree of 9 levels; `leaf` ends the last.
 fn nests_in_unused_tables(leaf: Policy) -> Vec<u8> {
     let apart = |p, q| beside(0, 0, p, q);
