@@ -24,9 +24,9 @@
  * - Stack. Measured by bench/stack on books that nest as deep as the rules allow: accept takes up to 13.3 KiB, evaluate 98.8 KiB, run
  *   100.7 KiB. A thread with a stack of 128 KiB has enough for any of them; how much is left is not looked at.
  * - Time. accept takes time in proportion to the book. evaluate does not: N, its number of steps, is up to 4 n 16^D, and a book of
- *   1,155 bytes makes one packet cost 62,748,530 steps on up to 16 packets each, many seconds (docs/SPEED.md). run asks evaluate first,
- *   so that it takes as long, also where it then turns the call away. Nothing ends a call early. Who takes books from strangers calls
- *   accept and refuses what has a large n 16^D, or runs the call where it can be given up.
+ *   1,155 bytes makes one packet cost 62,748,530 steps on up to 16 packets each, which takes seconds (docs/SPEED.md). run asks evaluate
+ *   first, so that it takes as long, also where it then turns the call away. Nothing ends a call early. Who takes books from strangers
+ *   asks accept first, whose n and D bound N, or makes the call where it can be given up.
  */
 #ifndef HAMSTEDEW_H
 #define HAMSTEDEW_H

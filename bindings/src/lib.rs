@@ -17,7 +17,7 @@
 //! ```
 //!
 //! A call asks for no memory, except [`packets`], and keeps nothing. It takes stack, up to about 100 KiB, and an accepted
-//! book can make one packet cost many seconds: `docs/SPEED.md` has both.
+//! book can make one packet cost seconds: `docs/SPEED.md` has both.
 
 mod faces;
 pub mod refusal;

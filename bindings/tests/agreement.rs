@@ -157,7 +157,7 @@ fn runs_agree_and_every_word_of_both_buffers() {
 }
 
 #[test]
-fn the_book_of_document_01() {
+fn the_book_of_17_bytes() {
     let book = [2, 0, 0, 11, 0, 3, 7, 1, 2, 3, 0, 0, 1, 3, 1, 0, 2];
     assert_eq!(hamstedew::accept(&book), Ok(Sizes { fields: 2, tables: 0, parts: 3, deep: 1 }));
     let mut result = [7; 33];
