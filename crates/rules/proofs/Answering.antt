@@ -205,7 +205,7 @@ ran-admitted book packet schedule words area a b w =
     ran-granted book packet schedule words area b w (a .granted)
     ∙ rw (le-leb (room (mainOf book) (startSet packet)) mostPositions (a .positions))
 
--- 13 is the first stuck step's place; the typing shuts it out (`never-lacking`)
+-- 13 is the first stuck step's place; the typing shuts it out (`never-stuck`)
 pub ran-stuck : (book packet schedule : List ℕ) (words area : ℕ) → Admitted book packet → mostPackets * fieldsOf book ≤ words
     → areaWords ≤ area → (at : ℕ) (l : List ℕ) → stuckIn (start book packet) schedule ≡ at ∷ l
     → ran book packet schedule words area ≡ NotRun (Stuck at)
