@@ -1,15 +1,15 @@
 -- That a run ends as specs/Ends says: turned away exactly by the first number that applies, and otherwise let through; and what
 -- each end leaves in the buffers.
-use Prim.Native.Nat.{ℕ, suc, _+_, _*_, _≤_, _<_}
+use Prim.Native.Nat.{ℕ, suc, _*_, _≤_}
 use native.Mathlib.Omega.{arith}
 use native.Mathlib.Nat.{suc-mul}
 use native.Mathlib.Decide.{decLe, ℕ-discrete}
 use mathlib.Core.Path.{_≡_, refl, sym, ap, _∙_, subst}
 use mathlib.Core.Bool.{Bool, true, false, _&&_}
-use mathlib.Core.Logic.{_↔_, _⊎_, inl, inr, ⊎-elim}
-use mathlib.Core.List.{List, [], _∷_, _++_, map}
+use mathlib.Core.Logic.{_⊎_, inl, inr, ⊎-elim}
+use mathlib.Core.List.{List, [], _∷_, map}
 use lib.Dec.{leb, eqb, lit≤}
-use lib.ListN.{length, take, drop, replicate, length-append, length-replicate, length-map}
+use lib.ListN.{length, take, drop, replicate, length-append, length-replicate}
 use lib.Seq.{take-all, take-at, take-take, drop-at}
 use Rattle.rules.specs.declared.Reading.{Reading}
 use Rattle.rules.specs.declared.Reading.the-variants.{Next, Wrong}
@@ -20,12 +20,11 @@ use Rattle.rules.specs.declared.Verdict.{Verdict}
 use Rattle.rules.specs.declared.Verdict.the-variants.{Accepted, Refused}
 use Rattle.rules.specs.declared.Finish.{Finish}
 use Rattle.rules.specs.declared.Progress.{Progress}
-use Rattle.rules.specs.declared.Ran.{Ran}
 use Rattle.rules.specs.declared.Ran.the-variants.{Finished, Running, NotRun}
 use Rattle.rules.specs.Packets.{Packet, Packets, _∈_, mostPackets, valuesOf}
 use Rattle.rules.specs.Parts.{parts, deep, namesOpen}
 use Rattle.rules.specs.Reading.{fieldsOf, tablesOf, bodyStart, readEntries, masksRight, mainOf, policyOf}
-use Rattle.rules.specs.Reading.{typingFaults, unless, unlessWrong, unlessFault, sizesOf, verdict}
+use Rattle.rules.specs.Reading.{typingFaults, unless, unlessWrong, unlessFault, verdict}
 use Rattle.rules.specs.Books.{mostFields, mostTables, mostBytes, mostParts, mostBeside}
 use Rattle.rules.specs.Working.{room, width}
 use Rattle.rules.specs.Answers.{numberOf, areaWords, startSet, overwritten, ran, ranResult, ranArea}

@@ -7,7 +7,7 @@ use mathlib.Core.Option.{some}
 use lib.ListN.{replicate}
 use Rattle.rules.specs.Masks.{has, apart, within, less}
 use Rattle.rules.specs.Packets.{padded, passes, put, mix, orderOf, insert, union, keep, member, pairsInto}
-use Rattle.rules.specs.Parts.{Part, Id, Drop, Set, Not, Sum, Seq, Beside, Table, Open, write, parts, deep, namesOpen}
+use Rattle.rules.specs.Parts.{Part, Id, Drop, Set, Not, Sum, Seq, Beside, Table, write, parts, deep, namesOpen}
 use Rattle.rules.specs.Typing.{tested, written, rightMasks, fitMasks, wrongs}
 use Rattle.rules.specs.Books.{Entry, noEntry, entries, bytesOf, contents, bodies, writeBook, masksFit}
 use Rattle.rules.specs.Reading.{byteIf, stands, operandFits, readOperands, readPart, readBody, bodyStart}

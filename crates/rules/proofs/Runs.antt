@@ -1,9 +1,11 @@
 -- The answer of a run under every schedule: one number N, finished with the evaluator's packets or unfinished with a step ready.
-use Prim.Native.Nat.{ℕ, _*_, _≤_}
+use Prim.Native.Nat.{ℕ, _*_, _≤_, _<_}
 use native.Mathlib.Omega.{arith}
 use mathlib.Core.Path.{_≡_, ap, _∙_}
 use mathlib.Core.List.{List}
 use lib.ListN.{length}
+use Rattle.rules.specs.declared.Ran.{Ran}
+use Rattle.rules.specs.declared.Ran.the-variants.{Finished, Running}
 use Rattle.rules.specs.Packets.{mostPackets}
 use Rattle.rules.specs.Typing.{tested, written, Right}
 use Rattle.rules.specs.Reading.{fieldsOf, mainOf}

@@ -7,7 +7,7 @@ use mathlib.Core.Path.{_≡_, refl, sym, ap, _∙_}
 use mathlib.Core.List.{List, [], _∷_, _++_, append-assoc, append-nil}
 use lib.ListN.{length, getD, drop, length-append}
 use lib.Seq.{drop-cons, drop-drop, drop-append-seam, drop-length}
-use Rattle.rules.specs.Books.{Entry, Policy, entries, bytesOf, contents, bodies, writeBook, firstBody, startIn, Bytes}
+use Rattle.rules.specs.Books.{Entry, Policy, entries, bytesOf, contents, bodies, writeBook, firstBody, startIn, noEntry, Bytes}
 use Rattle.rules.specs.Reading.{fieldsOf, tablesOf, lengthAt, readsAt, writesAt, bodyStart}
 use Rattle.rules.proofs.Decoding.{drop-head}
 
@@ -82,6 +82,13 @@ module _ (s : List ℕ) where
   start-stands (e ∷ es) x (suc i) h l =
       let n : x + suc i ≡ suc x + i = omega arith in
       rw (← h .0 .size, n) (start-stands es (suc x) i (h .1) (omega arith))
+
+  -- each of them
+  pub entry-stands : (es : List Entry) (x i : ℕ) → AllStand s x es → i < length es → Stands s (x + i) (getD es i noEntry)
+  entry-stands [] x i h l = absurd (omega arith)
+  entry-stands (e ∷ es) x zero h l = rw (add-zero x) (h .0)
+  entry-stands (e ∷ es) x (suc i) h l =
+      let n : x + suc i ≡ suc x + i = omega arith in rw n (entry-stands es (suc x) i (h .1) (omega arith))
 
   -- ---- entries that are written there stand
 

@@ -9,7 +9,7 @@ use lib.ListN.{length}
 use Rattle.rules.specs.Packets.{Packet, Packets, without}
 use Rattle.rules.specs.Parts.{Part, Id, Drop, Test, Set, Not, Sum, Seq, Beside, Table, Open}
 use Rattle.rules.specs.Working.{out, room, own, widest, width}
-use Rattle.rules.specs.States.{Spot, on, Join, entered, split, paired, Tree, placed, waiting, negated, both, place, enter, run, held}
+use Rattle.rules.specs.States.{Spot, on, Join, entered, split, paired, Tree, waiting, negated, both, place, enter, run, held}
 use Rattle.rules.proofs.Lists.{All}
 use Rattle.rules.proofs.Bounds.{width-one, width-more}
 use Rattle.rules.proofs.Schedules.{held-width}
