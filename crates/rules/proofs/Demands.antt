@@ -56,7 +56,7 @@ use Rattle.rules.proofs.Ends.{words-front, words-others, finished-clear
 pub use Rattle.rules.proofs.Trials.{starred}
 pub use Rattle.rules.proofs.Limits.{both-sides}
 pub use Rattle.rules.proofs.Counterexamples.{each-needed, trap, declared-counts}
-pub use Rattle.rules.proofs.Edges.{places, masks}
+pub use Rattle.rules.proofs.Edges.{places, masks, wrong-bytes}
 
 -- ---- Demand 1: any book, packet, schedule or buffer is answered. `verdict`, `evaluated` and `ran` are functions of all bytes, words
 -- and lengths, so there is an answer, and one. Bad input is refused by number, and a refusal changes nothing lent.

@@ -1,5 +1,5 @@
 -- Books at the edges of the numbers 1 to 7, computed: for each rule a book that breaks it with the place that is given, books that just
--- keep it, and for each two neighbouring numbers a book that earns both. And T and M of parts of each kind.
+-- keep it, and for each two neighbouring numbers a book that earns both. And T and M of parts of each kind, and all their wrong parts.
 use Prim.Native.Nat.{ℕ, zero, suc, _/_, _%_}
 use mathlib.Core.Path.{_≡_, refl}
 use mathlib.Core.List.{List, [], _∷_, _++_, map}
@@ -211,6 +211,8 @@ misfitBooks =
     ∷ (book 2 (0, 2, 2 ∷ 0 ∷ 0 ∷ 5 ∷ []) ((0, 2, 2 ∷ 0 ∷ 0 ∷ 5 ∷ []) ∷ []), refusal 7 10)
     ∷ (book 2 (0, 3, 0 ∷ []) ((0, 2, 2 ∷ 0 ∷ 0 ∷ 5 ∷ []) ∷ (0, 2, 2 ∷ 0 ∷ 0 ∷ 5 ∷ []) ∷ []), refusal 7 15)
     ∷ (book 2 (0, 3, 0 ∷ []) ((0, 2, []) ∷ table (2 ∷ 0 ∷ 0 ∷ 5 ∷ []) ∷ (0, 2, 4 ∷ 2 ∷ 0 ∷ 0 ∷ 5 ∷ []) ∷ []), refusal 7 23)
+    ∷ (book 2 (0, 3, 0 ∷ []) ((1, 2, 2 ∷ 0 ∷ 0 ∷ 5 ∷ []) ∷ []), accepted 2 1 1 0)
+    ∷ (book 2 (0, 3, 0 ∷ []) ((1, 2, 3 ∷ 0 ∷ 0 ∷ 1 ∷ []) ∷ []), refusal 7 11)
     ∷ (book 2 (0, 2, 2 ∷ 0 ∷ 0 ∷ 5 ∷ []) (table (0 ∷ []) ∷ table (7 ∷ 1 ∷ 1 ∷ 0 ∷ 0 ∷ []) ∷ []), refusal 7 19)
     ∷ []
 
@@ -267,3 +269,14 @@ pub masks : map both
     ∷ (7, 4) ∷ (7, 4) ∷ []
 unfolding tested written
 masks = refl
+
+-- ---- the code bytes of all concurrent parts that are not right, in book order, whatever stands above them
+
+-- five bytes, not right
+abbrev pub wrong : Part
+wrong = Beside 1 1 Id Id
+
+pub wrong-bytes : map (wrongs 6) (Not wrong ∷ Beside 1 1 wrong wrong ∷ Table 1 0 1 20 wrong ∷ [])
+    ≡ (7 ∷ []) ∷ (6 ∷ 9 ∷ 14 ∷ []) ∷ [] ∷ []
+unfolding write tested written apart within rightMasks wrongs
+wrong-bytes = refl
