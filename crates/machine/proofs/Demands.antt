@@ -1,5 +1,5 @@
 -- What the demands say of the machine: one number of steps for every schedule, demand 2's set, and an answer that its inputs fix.
-use Prim.Native.Nat.{ℕ, _*_, _≤_}
+use Prim.Native.Nat.{ℕ, _*_, _≤_, _<_}
 use mathlib.Core.Path.{_≡_, sym, _∙_}
 use mathlib.Core.Logic.{_↔_}
 use mathlib.Core.List.{List}
