@@ -3,44 +3,53 @@
 use Prim.Native.Nat.{ℕ, suc, _≤_}
 use native.Mathlib.Omega.{arith}
 use mathlib.Core.Path.{_≡_, refl, sym, ap, _∙_}
-use mathlib.Core.Bool.{Bool, true, false, _&&_}
+use mathlib.Core.Bool.{true, false≢true}
 use mathlib.Core.Logic.{_↔_}
 use mathlib.Core.List.{List, [], _∷_}
-use lib.Dec.{leb}
+use mathlib.Core.Option.{Option, none, some}
 use lib.ListN.{length}
 use borrow.Author.Tests.{leb-true, le-leb, eqb-true, eq-eqb}
 use Rattle.rules.specs.declared.Reading.{Reading}
 use Rattle.rules.specs.declared.Reading.the-variants.{Next, Wrong}
 use Rattle.rules.specs.declared.Refusal.{Refusal}
-use Rattle.rules.specs.declared.Refusal.the-variants.{BookLength, Counts, Lengths, EntryMasks, Limits}
 use Rattle.rules.specs.declared.Sizes.{Sizes}
-use Rattle.rules.specs.declared.Verdict.{Verdict}
-use Rattle.rules.specs.declared.Verdict.the-variants.{Accepted}
+use Rattle.rules.specs.declared.Verdict.the-variants.{Accepted, Refused}
 use Rattle.rules.specs.Parts.{parts, deep}
 use Rattle.rules.specs.Books.{mostFields, mostTables, mostBytes, mostParts, mostBeside, Policy, writeBook, WellFormed, Book, Bytes}
-use Rattle.rules.specs.Reading.{fieldsOf, tablesOf, bodyStart, mainOf, policyOf, typingFaults, unless}
-use Rattle.rules.specs.Reading.{unlessWrong, unlessFault, sizesOf, verdict}
-use Rattle.rules.proofs.Decoding.{and-was}
+use Rattle.rules.specs.Checks.{firstFailed}
+use Rattle.rules.specs.Reading.{fieldsOf, tablesOf, bodyStart, readEntries, mainOf, policyOf, typingFaults}
+use Rattle.rules.specs.Reading.{goesOn, noFault, formChecks, bookChecks, sizesOf, verdictBy, verdict}
+use Rattle.rules.proofs.CheckLaws.{AllHold, end, _&_, none-failed, all-held}
 use Rattle.rules.proofs.Whole.{Readable, whole-read, whole-reads}
 use Rattle.rules.proofs.Faults.{faults}
 
--- ---- the tests, one after the other
+-- ---- the verdict and its checks
 
-unless-was : (b : Bool) (r : Refusal) (v : Verdict) (z : Sizes) → unless b r v ≡ Accepted z → (b ≡ true) × (v ≡ Accepted z)
-unless-was true r v z q = (refl, q)
-unless-was false r v z q = let x : _≡_ {A = ℕ} 0 1 = cc in absurd (omega arith)
+by-checks : (o : Option Refusal) (y z : Sizes) → verdictBy o y ≡ Accepted z → (o ≡ none) × (z ≡ y)
+by-checks none y z e = (refl, (let q : y ≡ z = cc in sym q))
+by-checks (some r) y z e = let n : _≡_ {A = ℕ} 0 1 = cc in absurd (omega arith)
 
-unless-wrong-was : (x : Reading) (v : Verdict) (z : Sizes) → unlessWrong x v ≡ Accepted z → ((a : ℕ) × (x ≡ Next a)) × (v ≡ Accepted z)
-unless-wrong-was (Next a) v z q = ((a, refl), q)
-unless-wrong-was (Wrong a) v z q = let x : _≡_ {A = ℕ} 0 1 = cc in absurd (omega arith)
+by-refusal : (o : Option Refusal) (y : Sizes) (r : Refusal) → verdictBy o y ≡ Refused r → o ≡ some r
+by-refusal none y r e = let n : _≡_ {A = ℕ} 0 1 = cc in absurd (omega arith)
+by-refusal (some q) y r e = let same : q ≡ r = cc in rw same
 
-unless-fault-was : (l : List ℕ) (v : Verdict) (z : Sizes) → unlessFault l v ≡ Accepted z → (l ≡ []) × (v ≡ Accepted z)
-unless-fault-was [] v z q = (refl, q)
-unless-fault-was (a ∷ l) v z q = let x : _≡_ {A = ℕ} 0 1 = cc in absurd (omega arith)
+module _ (s : List ℕ) where
+  pub accepted-checks : (z : Sizes) → verdict s ≡ Accepted z → firstFailed (bookChecks s) ≡ none
+  unfolding verdict
+  accepted-checks z e = by-checks (firstFailed (bookChecks s)) (sizesOf s) z e .0
 
--- two bounds tested together
-pub bounds : (a b c d : ℕ) → a ≤ b → c ≤ d → (leb a b && leb c d) ≡ true
-bounds a b c d h k = rw (le-leb a b h) (le-leb c d k)
+  -- and back
+  pub checks-refused : (r : Refusal) → firstFailed (bookChecks s) ≡ some r → verdict s ≡ Refused r
+  unfolding verdict
+  checks-refused r e = rw e
+
+  pub checks-accepted : firstFailed (bookChecks s) ≡ none → (z : Sizes) × (verdict s ≡ Accepted z)
+  unfolding verdict
+  checks-accepted e = (sizesOf s, rw e)
+
+  pub refused-checks : (r : Refusal) → verdict s ≡ Refused r → firstFailed (bookChecks s) ≡ some r
+  unfolding verdict
+  refused-checks r e = by-refusal (firstFailed (bookChecks s)) (sizesOf s) r e
 
 -- what an accepting verdict has tested: 1 to 5, then 6, then 7
 pub record Passed (s : List ℕ) : Type 0 where
@@ -49,51 +58,58 @@ pub record Passed (s : List ℕ) : Type 0 where
   pub deep : deep (mainOf s) ≤ mostBeside
   pub typed : typingFaults (policyOf s) ≡ []
 
+on-was : (x : Reading) → goesOn x ≡ true → (a : ℕ) × (x ≡ Next a)
+on-was (Next a) e = (a, refl)
+on-was (Wrong a) e = absurd (false≢true e)
+
+none-was : (l : List ℕ) → noFault l ≡ true → l ≡ []
+none-was [] e = refl
+none-was (at ∷ l) e = absurd (false≢true e)
+
 module _ (s : List ℕ) where
+  held-was : AllHold (bookChecks s) → Passed s
+  unfolding bookChecks formChecks
+  held-was (short & long & some-field & fields & tables & lengths & masks & form & parts-few & deep-few & typed & end) =
+      record {
+        readable = record {
+          bytes = (leb-true 2 (length s) short, leb-true (length s) mostBytes long);
+          fields = (leb-true 1 (fieldsOf s) some-field, leb-true (fieldsOf s) mostFields fields);
+          tables = leb-true (tablesOf s) mostTables tables;
+          lengths = eqb-true (bodyStart s (suc (tablesOf s))) (length s) lengths;
+          masks = masks;
+          form = on-was (readEntries s (suc (tablesOf s)) 0) form;
+        };
+        parts = leb-true (parts (mainOf s)) mostParts parts-few;
+        deep = leb-true (deep (mainOf s)) mostBeside deep-few;
+        typed = none-was (typingFaults (policyOf s)) typed;
+      }
+
   pub passed-was : (z : Sizes) → verdict s ≡ Accepted z → Passed s × (z ≡ sizesOf s)
   unfolding verdict
   passed-was z q =
-      let t1 = unless-was _ BookLength _ z q in
-      let t2 = unless-was _ Counts _ z (t1 .1) in
-      let t3 = unless-was _ Lengths _ z (t2 .1) in
-      let t4 = unless-was _ EntryMasks _ z (t3 .1) in
-      let t5 = unless-wrong-was _ _ z (t4 .1) in
-      let t6 = unless-was _ Limits _ z (t5 .1) in
-      let t7 = unless-fault-was _ _ z (t6 .1) in
-      let b1 = and-was (leb 2 (length s)) (leb (length s) mostBytes) (t1 .0) in
-      let b2 = and-was (leb 1 (fieldsOf s)) _ (t2 .0) in
-      let b3 = and-was (leb (fieldsOf s) mostFields) (leb (tablesOf s) mostTables) (b2 .1) in
-      let b6 = and-was (leb (parts (mainOf s)) mostParts) (leb (deep (mainOf s)) mostBeside) (t6 .0) in (
-        record {
-          readable = record {
-            bytes = (leb-true 2 (length s) (b1 .0), leb-true (length s) mostBytes (b1 .1));
-            fields = (leb-true 1 (fieldsOf s) (b2 .0), leb-true (fieldsOf s) mostFields (b3 .0));
-            tables = leb-true (tablesOf s) mostTables (b3 .1);
-            lengths = eqb-true (bodyStart s (suc (tablesOf s))) (length s) (t3 .0);
-            masks = t4 .0;
-            form = t5 .0;
-          };
-          parts = leb-true (parts (mainOf s)) mostParts (b6 .0);
-          deep = leb-true (deep (mainOf s)) mostBeside (b6 .1);
-          typed = t7 .0;
-        },
-        (let e : sizesOf s ≡ z = cc in sym e),
-      )
+      let k = by-checks (firstFailed (bookChecks s)) (sizesOf s) z q in
+      (held-was (all-held (bookChecks s) (k .0)), k .1)
+
+  held-is : Passed s → AllHold (bookChecks s)
+  unfolding bookChecks formChecks
+  held-is t =
+      let r = t .readable in
+      le-leb 2 (length s) (r .bytes .0)
+      & le-leb (length s) mostBytes (r .bytes .1)
+      & le-leb 1 (fieldsOf s) (r .fields .0)
+      & le-leb (fieldsOf s) mostFields (r .fields .1)
+      & le-leb (tablesOf s) mostTables (r .tables)
+      & eq-eqb (bodyStart s (suc (tablesOf s))) (length s) (r .lengths)
+      & r .masks
+      & ap goesOn (r .form .1)
+      & le-leb (parts (mainOf s)) mostParts (t .parts)
+      & le-leb (deep (mainOf s)) mostBeside (t .deep)
+      & ap noFault (t .typed)
+      & end
 
   pub passed-is : Passed s → verdict s ≡ Accepted (sizesOf s)
   unfolding verdict
-  passed-is t =
-      let r = t .readable in
-      rw (
-        bounds 2 (length s) (length s) mostBytes (r .bytes .0) (r .bytes .1),
-        le-leb 1 (fieldsOf s) (r .fields .0),
-        bounds (fieldsOf s) mostFields (tablesOf s) mostTables (r .fields .1) (r .tables),
-        eq-eqb (bodyStart s (suc (tablesOf s))) (length s) (r .lengths),
-        r .masks,
-        r .form .1,
-        bounds (parts (mainOf s)) mostParts (deep (mainOf s)) mostBeside (t .parts) (t .deep),
-        t .typed,
-      )
+  passed-is t = rw (none-failed (bookChecks s) (held-is t))
 
 -- ---- acceptance
 

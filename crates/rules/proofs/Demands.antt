@@ -4,18 +4,15 @@ use Prim.Native.Nat.{ℕ, _*_, _^_, _≤_, _<_}
 use native.Mathlib.Omega.{arith}
 use mathlib.Core.Path.{_≡_, sym, _∙_}
 use mathlib.Core.Bool.{Bool, true, false}
-use mathlib.Core.Logic.{_↔_}
+use mathlib.Core.Logic.{_↔_, _⊎_}
 use mathlib.Core.List.{List, []}
 use mathlib.Core.Option.{Option}
-use lib.Dec.{lit≤}
 use lib.ListN.{length, take, length-map}
+use Rattle.rules.specs.declared.Reason.the-variants.{TooWide}
 use Rattle.rules.specs.declared.Refusal.{Refusal}
-use Rattle.rules.specs.declared.Refusal.the-variants.{BookLength, Counts, Lengths, EntryMasks, Form, Limits}
-use Rattle.rules.specs.declared.Refusal.the-variants.{Typing, PacketLength, Unpopulated, TooWide, Positions}
-use Rattle.rules.specs.declared.Refusal.the-variants.{BufferLength, Stuck, Input}
 use Rattle.rules.specs.declared.Sizes.{Sizes}
 use Rattle.rules.specs.declared.Verdict.{Verdict}
-use Rattle.rules.specs.declared.Verdict.the-variants.{Accepted}
+use Rattle.rules.specs.declared.Verdict.the-variants.{Accepted, Refused}
 use Rattle.rules.specs.declared.Evaluated.the-variants.{NotGiven}
 use Rattle.rules.specs.declared.Ran.the-variants.{NotRun}
 use Rattle.rules.specs.Packets.{Packet, Packets, mostPackets, Ascending, _∈_, valuesOf}
@@ -23,11 +20,12 @@ use Rattle.rules.specs.Parts.{Part, Beside, parts, deep, namesOpen}
 use Rattle.rules.specs.Typing.{Right, tested, written, rightBeside}
 use Rattle.rules.specs.Books.{Policy, writeBook, tableOf, Scope, Fine, WellFormed, Typed, Book, Bytes}
 use Rattle.rules.specs.Replacing.{bodyOf, rebound, replacedBody, TypedFor}
+use Rattle.rules.specs.Checks.{noPlace, numberOf}
 use Rattle.rules.specs.Reading.{fieldsOf, mainOf, verdict}
 use Rattle.rules.specs.Meaning.{Gives, Paired}
 use Rattle.rules.specs.Working.{room, width}
 use Rattle.rules.specs.States.{live, run, stuckIn, held}
-use Rattle.rules.specs.Answers.{numberOf, areaWords, startSet, startSpot, given, evaluated, evaluatedResult}
+use Rattle.rules.specs.Answers.{areaWords, startSet, startSpot, given, evaluated, evaluatedResult}
 use Rattle.rules.specs.Answers.{overwritten, start, ran, ranResult, ranArea}
 use Rattle.rules.specs.Fields.{Has}
 use Rattle.rules.specs.Places.{Everywhere, InPlace}
@@ -47,8 +45,9 @@ use Rattle.rules.proofs.Replacing.{parts-kept, typing-kept}
 use Rattle.rules.proofs.AcceptedBooks.{accepted-fields, accepted-formed, accepted-right, accepted-below}
 use Rattle.rules.proofs.AcceptedBooks.{accepted-tested, accepted-written}
 use Rattle.rules.proofs.Answering.{evaluated-given, evaluated-wide, too-wide-was, not-given-keeps, not-run-keeps}
+use Rattle.rules.proofs.Numbers.{book-numbers, evaluation-numbers, run-numbers}
 use Rattle.rules.proofs.Runs.{stops, at-finish, runs-on, same-words}
-use Rattle.rules.proofs.Ends.{LetThrough, turned-away-is, turned-away-was, let-through-was, turned-numbers}
+use Rattle.rules.proofs.Ends.{LetThrough, turned-away-is, turned-away-was, let-through-was}
 use Rattle.rules.proofs.Ends.{words-front, words-others, finished-clears, running-clears, running-keeps}
 -- the trials of document 01 marked *, every limit from both sides, the need of each condition of a right concurrent part, the trap of
 -- pairing across packets, and that of typing a table by its body; books at the edges of the numbers 1 to 7 with their places, and T and
@@ -64,21 +63,13 @@ pub use Rattle.rules.proofs.Edges.{places, masks, wrong-bytes}
 pub one-verdict : (book : List ℕ) → (v : Verdict) × ((w : Verdict) → verdict book ≡ w → w ≡ v)
 one-verdict book = (verdict book, λ w e. sym e)
 
-pub numbered : (r : Refusal) → (1 ≤ numberOf r) × (numberOf r ≤ 14)
-numbered BookLength = (lit≤ tt, lit≤ tt)
-numbered Counts = (lit≤ tt, lit≤ tt)
-numbered Lengths = (lit≤ tt, lit≤ tt)
-numbered EntryMasks = (lit≤ tt, lit≤ tt)
-numbered (Form at) = (lit≤ tt, lit≤ tt)
-numbered Limits = (lit≤ tt, lit≤ tt)
-numbered (Typing at) = (lit≤ tt, lit≤ tt)
-numbered PacketLength = (lit≤ tt, lit≤ tt)
-numbered Unpopulated = (lit≤ tt, lit≤ tt)
-numbered TooWide = (lit≤ tt, lit≤ tt)
-numbered Positions = (lit≤ tt, lit≤ tt)
-numbered BufferLength = (lit≤ tt, lit≤ tt)
-numbered (Stuck at) = (lit≤ tt, lit≤ tt)
-numbered Input = (lit≤ tt, lit≤ tt)
+-- and each call has its own numbers: 1 to 7 a book; 8, 9, 10 and 12 besides an evaluation; 11 besides a run, and never 13
+pub accept-numbered : (book : List ℕ) (r : Refusal) → verdict book ≡ Refused r → numberOf r ≤ 7
+accept-numbered = book-numbers
+
+pub evaluate-numbered : (book packet : List ℕ) (words : ℕ) (r : Refusal) → evaluated book packet words ≡ NotGiven r
+    → (numberOf r ≤ 10) ⊎ (numberOf r ≡ 12)
+evaluate-numbered = evaluation-numbers
 
 pub refused-evaluation-keeps : (book packet result : List ℕ) (r : Refusal) → evaluated book packet (length result) ≡ NotGiven r
     → evaluatedResult book packet result ≡ result
@@ -257,7 +248,7 @@ width-reached book packet = part-width-reached (startSpot book) (mainOf book) (s
 -- The choices are numbers of any size: where the room is over 256, bytes need not reach every state.
 pub ten-exactly : (book packet : List ℕ) (words : ℕ) (z : Sizes) → verdict book ≡ Accepted z → length packet ≡ fieldsOf book
     → mostPackets * fieldsOf book ≤ words → namesOpen (mainOf book) ≡ false
-    → (evaluated book packet words ≡ NotGiven TooWide)
+    → (evaluated book packet words ≡ NotGiven (noPlace TooWide))
     ↔ ((schedule : List ℕ) × (mostPackets < held (run (start book packet) schedule)))
 unfolding start
 ten-exactly book packet words z a l b n =
@@ -277,8 +268,8 @@ module _ (book packet schedule : List ℕ) (words area : ℕ) (bytes : Bytes boo
     turned-away-is book packet words area schedule r,
   )
 
-  pub never-thirteen : (r : Refusal) → ran book packet schedule words area ≡ NotRun r → numberOf r ≤ 12
-  never-thirteen r e = turned-numbers book packet words area r (turned-away-exactly r .0 e)
+  pub run-numbered : (r : Refusal) → ran book packet schedule words area ≡ NotRun r → numberOf r ≤ 12
+  run-numbered r e = run-numbers book packet words area r (turned-away-exactly r .0 e)
 
   pub let-through : ((r : Refusal) → ran book packet schedule words area ≡ NotRun r → ⊥)
       → Admitted book packet × (mostPackets * fieldsOf book ≤ words) × (areaWords ≤ area)

@@ -8,10 +8,11 @@ use Rattle.rules.specs.Masks.{apart, within}
 use Rattle.rules.specs.Parts.{Part, Id, Drop, Test, Set, Not, Sum, Seq, Beside, Table, Open, write, parts, deep}
 use Rattle.rules.specs.Typing.{tested, written, rightMasks, fitMasks, wrongs}
 use Rattle.rules.specs.Books.{entries, bytesOf, masksFit}
+use Rattle.rules.specs.Checks.{firstFailed}
 use Rattle.rules.specs.Reading.{byteIf, stands, operandFits, readOperands, readPart, readBody, bodyStart}
 use Rattle.rules.specs.Reading.{readEntry, readEntries, masksRight, after, built, partAt, bodyAt, useAt, mainOf}
 use Rattle.rules.specs.Reading.{tablesFrom, policyOf, wrongBody, misfit, wrongsIn, misfitsIn, typingFaults}
-use Rattle.rules.specs.Reading.{sizesOf, verdict}
+use Rattle.rules.specs.Reading.{formChecks, bookChecks, sizesOf, verdict}
 use Rattle.rules.specs.Answers.{Says, refusal, accepted, refusalSays, verdictSays}
 
 -- ---- books, put together from stated masks and bodies
@@ -250,7 +251,8 @@ unfolding layoutBooks formBooks kindBooks bodyBooks wrongBooks misfitBooks right
     contents bodies book drops nested
     apart within write parts deep tested written rightMasks fitMasks wrongs entries bytesOf masksFit
     byteIf stands operandFits readOperands readPart readBody bodyStart readEntry readEntries masksRight
-    after built partAt bodyAt useAt mainOf tablesFrom policyOf wrongBody misfit wrongsIn misfitsIn typingFaults sizesOf verdict
+    after built partAt bodyAt useAt mainOf tablesFrom policyOf wrongBody misfit wrongsIn misfitsIn typingFaults
+    firstFailed formChecks bookChecks sizesOf verdict
     refusalSays verdictSays
 places = refl
 

@@ -1,20 +1,16 @@
 -- That a run ends as specs/Ends says: turned away exactly by the first number that applies, and otherwise let through; and what
 -- each end leaves in the buffers.
-use Prim.Native.Nat.{ℕ, suc, _*_, _≤_}
+use Prim.Native.Nat.{ℕ, _*_, _≤_}
 use native.Mathlib.Omega.{arith}
 use native.Mathlib.Nat.{suc-mul}
 use native.Mathlib.Decide.{decLe, ℕ-discrete}
 use mathlib.Core.Path.{_≡_, refl, sym, ap, _∙_, subst}
-use mathlib.Core.Bool.{Bool, true, false, _&&_}
+use mathlib.Core.Bool.{Bool, true, false}
 use mathlib.Core.Logic.{_⊎_, inl, inr, ⊎-elim}
 use mathlib.Core.List.{List, [], _∷_, map}
-use lib.Dec.{leb, eqb, lit≤}
 use lib.ListN.{length, take, drop, replicate, length-append, length-replicate}
 use lib.Seq.{take-all, take-at, take-take, drop-at}
-use Rattle.rules.specs.declared.Reading.{Reading}
-use Rattle.rules.specs.declared.Reading.the-variants.{Next, Wrong}
 use Rattle.rules.specs.declared.Refusal.{Refusal}
-use Rattle.rules.specs.declared.Refusal.the-variants.{BookLength, Counts, Lengths, EntryMasks, Limits}
 use Rattle.rules.specs.declared.Sizes.{Sizes}
 use Rattle.rules.specs.declared.Verdict.{Verdict}
 use Rattle.rules.specs.declared.Verdict.the-variants.{Accepted, Refused}
@@ -22,12 +18,11 @@ use Rattle.rules.specs.declared.Finish.{Finish}
 use Rattle.rules.specs.declared.Progress.{Progress}
 use Rattle.rules.specs.declared.Ran.the-variants.{Finished, Running, NotRun}
 use Rattle.rules.specs.Packets.{Packet, Packets, _∈_, mostPackets, valuesOf}
-use Rattle.rules.specs.Parts.{parts, deep, namesOpen}
-use Rattle.rules.specs.Reading.{fieldsOf, tablesOf, bodyStart, readEntries, masksRight, mainOf, policyOf}
-use Rattle.rules.specs.Reading.{typingFaults, unless, unlessWrong, unlessFault, verdict}
-use Rattle.rules.specs.Books.{mostFields, mostTables, mostBytes, mostParts, mostBeside}
+use Rattle.rules.specs.Parts.{namesOpen}
+use Rattle.rules.specs.Reading.{fieldsOf, mainOf}
+use Rattle.rules.specs.Reading.{verdict}
 use Rattle.rules.specs.Working.{room, width}
-use Rattle.rules.specs.Answers.{numberOf, areaWords, startSet, overwritten, ran, ranResult, ranArea}
+use Rattle.rules.specs.Answers.{areaWords, startSet, overwritten, ran, ranResult, ranArea}
 use Rattle.rules.specs.Ends.{Fitting, Buffered, TurnedAway, by-book, by-packet, by-buffer, by-table, by-width, by-room, Cleared}
 use Rattle.rules.specs.Promises.{Granted, Admitted, Stops, finishes, goes-on}
 use Rattle.rules.proofs.Answering.{ran-refused, ran-packet, ran-result, ran-area, ran-open, ran-wide, ran-positions}
@@ -126,46 +121,6 @@ module _ (book packet schedule : List ℕ) (words area : ℕ)
       (λ (t : (q : Refusal) × TurnedAway book packet words area q).
       absurd (n (t .0) (turned-away-is book packet words area schedule (t .0) (t .1))))
       (λ (l : LetThrough book packet words area). l) (sorted book packet words area)
-
--- ---- the numbers given: a book's own are 1 to 7, and a run is turned away by no number above 12
-
-abbrev Own : Verdict → Type 0
-Own (Accepted z) = Unit {0}
-Own (Refused r) = numberOf r ≤ 7
-
-own-unless : (b : Bool) (r : Refusal) (v : Verdict) → numberOf r ≤ 7 → Own v → Own (unless b r v)
-own-unless true r v h o = o
-own-unless false r v h o = h
-
-own-wrong : (x : Reading) (v : Verdict) → Own v → Own (unlessWrong x v)
-own-wrong (Next a) v o = o
-own-wrong (Wrong a) v o = lit≤ tt
-
-own-fault : (l : List ℕ) (v : Verdict) → Own v → Own (unlessFault l v)
-own-fault [] v o = o
-own-fault (at ∷ l) v o = lit≤ tt
-
-own : (book : List ℕ) → Own (verdict book)
-unfolding verdict
-own book =
-    own-unless (leb 2 (length book) && leb (length book) mostBytes) BookLength _ (lit≤ tt)
-    (own-unless (leb 1 (fieldsOf book) && (leb (fieldsOf book) mostFields && leb (tablesOf book) mostTables)) Counts _ (lit≤ tt)
-    (own-unless (eqb (bodyStart book (suc (tablesOf book))) (length book)) Lengths _ (lit≤ tt)
-    (own-unless (masksRight book (suc (tablesOf book)) 0) EntryMasks _ (lit≤ tt)
-    (own-wrong (readEntries book (suc (tablesOf book)) 0) _
-    (own-unless (leb (parts (mainOf book)) mostParts && leb (deep (mainOf book)) mostBeside) Limits _ (lit≤ tt)
-    (own-fault (typingFaults (policyOf book)) _ tt))))))
-
-pub own-numbers : (book : List ℕ) (r : Refusal) → verdict book ≡ Refused r → numberOf r ≤ 7
-own-numbers book r e = subst Own e (own book)
-
-pub turned-numbers : (book packet : List ℕ) (words area : ℕ) (r : Refusal) → TurnedAway book packet words area r → numberOf r ≤ 12
-turned-numbers book packet words area r (by-book e) = omega (arith, own-numbers book r e)
-turned-numbers book packet words area r (by-packet e n) = lit≤ tt
-turned-numbers book packet words area r (by-buffer f h) = lit≤ tt
-turned-numbers book packet words area r (by-table b o) = lit≤ tt
-turned-numbers book packet words area r (by-width b o w) = lit≤ tt
-turned-numbers book packet words area r (by-room b o w p) = lit≤ tt
 
 -- ---- what is left in the buffers
 

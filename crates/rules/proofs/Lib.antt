@@ -15,7 +15,9 @@ pub mod Sets
 pub mod Lacked
 pub mod Below
 -- a book is accepted exactly if it is a right policy, written
+pub mod CheckLaws
 pub mod ReadingLaws
+pub mod CodeLaws
 pub mod Decoding
 pub mod Standing
 pub mod Whole
@@ -27,6 +29,7 @@ pub mod Replacing
 pub mod Acceptance
 pub mod Refusing
 pub mod AcceptedBooks
+pub mod Inside
 -- the meaning: Lemma 5, and that the working gives exactly it
 pub mod TypingLaws
 pub mod Frame
@@ -47,6 +50,7 @@ pub mod Places
 pub mod Stuck
 -- the answers
 pub mod Answering
+pub mod Numbers
 pub mod Runs
 pub mod Ends
 -- for the proofs of the code above

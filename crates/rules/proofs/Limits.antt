@@ -10,7 +10,8 @@ use Rattle.rules.specs.Packets.{padded, passes, put, mix, orderOf, inser
 use Rattle.rules.specs.Parts.{Part, Id, Drop, Set, Not, Sum, Seq, Beside, Table, write, parts, deep, namesOpen}
 use Rattle.rules.specs.Typing.{tested, written, rightMasks, fitMasks, wrongs}
 use Rattle.rules.specs.Books.{Entry, noEntry, entries, bytesOf, contents, bodies, writeBook, masksFit}
-use Rattle.rules.specs.Reading.{byteIf, stands, operandFits, readOperands, readPart, readBody, bodyStart}
+use Rattle.rules.specs.Checks.{firstFailed}
+use Rattle.rules.specs.Reading.{formChecks, bookChecks, byteIf, stands, operandFits, readOperands, readPart, readBody, bodyStart}
 use Rattle.rules.specs.Reading.{readEntry, readEntries, masksRight, after, built, partAt, bodyAt, useAt, mainOf}
 use Rattle.rules.specs.Reading.{tablesFrom, policyOf, wrongBody, misfit, wrongsIn, misfitsIn, typingFaults}
 use Rattle.rules.specs.Reading.{sizesOf, verdict}
@@ -18,7 +19,7 @@ use Rattle.rules.specs.Working.{each, out, steps, room, own, widest, wid
 use Rattle.rules.specs.States.{join, place, enter, finish, leave, next, live, move, run, counted, made, used}
 use Rattle.rules.specs.States.{lacking, stuckSteps, stuckIn}
 use Rattle.rules.specs.Answers.{Says, refusal, accepted, packets, finished, refusalSays, verdictSays, evaluatedSays, ranSays}
-use Rattle.rules.specs.Answers.{given, outcome, evaluated, start, ran}
+use Rattle.rules.specs.Answers.{given, outcome, packetChecks, evaluateChecks, evaluated, start, runChecks, ran}
 
 -- ---- policies: n times a part around another; 2 to the n of it, balanced
 
@@ -100,8 +101,8 @@ unfolding has apart within less padded passes put mix orderOf insert union keep 
     write parts deep namesOpen tested written rightMasks fitMasks wrongs
     entries bytesOf contents bodies writeBook masksFit
     byteIf stands operandFits readOperands readPart readBody bodyStart readEntry readEntries masksRight
-    after built partAt bodyAt useAt mainOf tablesFrom policyOf wrongBody misfit wrongsIn misfitsIn typingFaults sizesOf verdict
+    after built partAt bodyAt useAt mainOf tablesFrom policyOf wrongBody misfit wrongsIn misfitsIn typingFaults firstFailed formChecks bookChecks sizesOf verdict
     each out steps room own widest width
     join place enter finish leave next live move run counted made used lacking stuckSteps stuckIn
-    refusalSays verdictSays evaluatedSays ranSays given outcome evaluated start ran
+    refusalSays verdictSays evaluatedSays ranSays given outcome packetChecks evaluateChecks evaluated start runChecks ran
 both-sides = (refl, refl, refl, refl, refl, refl, refl, refl, refl, refl, refl)

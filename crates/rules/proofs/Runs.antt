@@ -1,7 +1,7 @@
 -- The answer of a run under every schedule: one number N, finished with the evaluator's packets or unfinished with a step ready.
 use Prim.Native.Nat.{ℕ, _*_, _≤_, _<_}
 use native.Mathlib.Omega.{arith}
-use mathlib.Core.Path.{_≡_, ap, _∙_}
+use mathlib.Core.Path.{_≡_, _∙_}
 use mathlib.Core.List.{List}
 use lib.ListN.{length}
 use Rattle.rules.specs.declared.Ran.{Ran}
@@ -9,8 +9,8 @@ use Rattle.rules.specs.declared.Ran.the-variants.{Finished, Running}
 use Rattle.rules.specs.Packets.{mostPackets}
 use Rattle.rules.specs.Typing.{tested, written, Right}
 use Rattle.rules.specs.Reading.{fieldsOf, mainOf}
-use Rattle.rules.specs.States.{finish, live, ready, run, made}
-use Rattle.rules.specs.Answers.{areaWords, startSet, startSpot, given, evaluatedResult, start, elseStuck, stopped, ran, ranResult}
+use Rattle.rules.specs.States.{finish, live, ready, run}
+use Rattle.rules.specs.Answers.{areaWords, startSet, startSpot, given, evaluatedResult, start, stopOf, ran, ranResult}
 use Rattle.rules.specs.Masks.{allFields, Sub}
 use Rattle.rules.specs.Promises.{Admitted, stepsOf, Stops, finishes, goes-on}
 use Rattle.rules.proofs.Schedules.{Ending, enough, short, ending}
@@ -34,13 +34,10 @@ module _ (book packet schedule : List ℕ) (words area : ℕ) (admitted : Admitt
     (tests : Sub (tested (mainOf book)) (allFields (fieldsOf book)))
     (writes : Sub (written (mainOf book)) (allFields (fieldsOf book))) where
   -- no step is stuck: the run stops where its schedule ends or it is finished
-  pub ran-stopped : ran book packet schedule words area
-      ≡ stopped (made (start book packet) schedule) (run (start book packet) schedule) (finish (run (start book packet) schedule))
+  pub ran-stopped : ran book packet schedule words area ≡ stopOf book packet schedule
   unfolding start
   ran-stopped =
-      ran-admitted book packet schedule words area admitted fit wide
-      ∙ ap (λ (l : List ℕ). elseStuck l
-      (stopped (made (start book packet) schedule) (run (start book packet) schedule) (finish (run (start book packet) schedule))))
+      ran-admitted book packet schedule words area fit wide admitted
       (never-stuck (startSpot book) (mainOf book) right tests writes (startSet packet) schedule .1)
 
   by-ending : Ending (startSpot book) (mainOf book) (startSet packet) schedule

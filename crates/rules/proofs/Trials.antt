@@ -9,7 +9,8 @@ use Rattle.rules.specs.Packets.{padded, passes, put, mix, orderOf, inser
 use Rattle.rules.specs.Parts.{write, parts, deep, namesOpen}
 use Rattle.rules.specs.Typing.{tested, written, rightMasks, fitMasks, wrongs}
 use Rattle.rules.specs.Books.{entries, bytesOf, masksFit}
-use Rattle.rules.specs.Reading.{byteIf, stands, operandFits, readOperands, readPart, readBody, bodyStart}
+use Rattle.rules.specs.Checks.{firstFailed}
+use Rattle.rules.specs.Reading.{formChecks, bookChecks, byteIf, stands, operandFits, readOperands, readPart, readBody, bodyStart}
 use Rattle.rules.specs.Reading.{readEntry, readEntries, masksRight, after, built, partAt, bodyAt, useAt, mainOf}
 use Rattle.rules.specs.Reading.{tablesFrom, policyOf, wrongBody, misfit, wrongsIn, misfitsIn, typingFaults}
 use Rattle.rules.specs.Reading.{sizesOf, verdict}
@@ -17,7 +18,8 @@ use Rattle.rules.specs.Working.{each, out, steps, room, own, widest, wid
 use Rattle.rules.specs.States.{join, place, enter, finish, leave, next, live, move, run, counted, made, used}
 use Rattle.rules.specs.States.{lacking, stuckSteps, stuckIn}
 use Rattle.rules.specs.Answers.{Says, refusal, packets, finished, running, refusalSays, evaluatedSays, ranSays}
-use Rattle.rules.specs.Answers.{given, outcome, evaluated, overwritten, evaluatedResult, start, ran, areaWords}
+use Rattle.rules.specs.Answers.{given, outcome, packetChecks, evaluateChecks, evaluated, overwritten, evaluatedResult, start}
+use Rattle.rules.specs.Answers.{runChecks, ran, areaWords}
 
 -- "k = 2, ... main masks R empty and W all fields", no tables: the book with this main body
 abbrev pub bookOf : List ℕ → List ℕ
@@ -97,8 +99,8 @@ unfolding trials trial answered expected buffer
     write parts deep namesOpen tested written rightMasks fitMasks wrongs
     entries bytesOf masksFit
     byteIf stands operandFits readOperands readPart readBody bodyStart readEntry readEntries masksRight
-    after built partAt bodyAt useAt mainOf tablesFrom policyOf wrongBody misfit wrongsIn misfitsIn typingFaults sizesOf verdict
+    after built partAt bodyAt useAt mainOf tablesFrom policyOf wrongBody misfit wrongsIn misfitsIn typingFaults firstFailed formChecks bookChecks sizesOf verdict
     each out steps room own widest width
     join place enter finish leave next live move run counted made used lacking stuckSteps stuckIn
-    refusalSays evaluatedSays ranSays given outcome evaluated overwritten evaluatedResult start ran
+    refusalSays evaluatedSays ranSays given outcome packetChecks evaluateChecks evaluated overwritten evaluatedResult start runChecks ran
 starred = refl

@@ -1,14 +1,13 @@
 -- The answers of the evaluator and of a run, what every lent word is afterwards, and each answer's number, place and values
 -- (document 01, "Numbers that turn a call away").
 use Prim.Native.Nat.{ℕ, _*_}
-use mathlib.Core.Bool.{Bool, true, false, not, _&&_}
+use mathlib.Core.Bool.{not}
 use mathlib.Core.List.{List, [], _∷_, _++_}
+use mathlib.Core.Option.{Option, none, some}
 use lib.Dec.{leb, eqb}
 use lib.ListN.{length, drop, replicate}
+use Rattle.rules.specs.declared.Reason.the-variants.{PacketLength, Unpopulated, TooWide, Positions, BufferLength, Stuck}
 use Rattle.rules.specs.declared.Refusal.{Refusal}
-use Rattle.rules.specs.declared.Refusal.the-variants.{BookLength, Counts, Lengths, EntryMasks, Form, Limits}
-use Rattle.rules.specs.declared.Refusal.the-variants.{Typing, PacketLength, Unpopulated, TooWide, Positions}
-use Rattle.rules.specs.declared.Refusal.the-variants.{BufferLength, Stuck, Input}
 use Rattle.rules.specs.declared.Verdict.{Verdict}
 use Rattle.rules.specs.declared.Verdict.the-variants.{Accepted, Refused}
 use Rattle.rules.specs.declared.Outcome.{Outcome}
@@ -19,44 +18,10 @@ use Rattle.rules.specs.declared.Ran.the-variants.{Finished, Running, Not
 use Rattle.rules.specs.Masks.{allFields}
 use Rattle.rules.specs.Packets.{Packets, mostPackets, padded, valuesOf}
 use Rattle.rules.specs.Parts.{parts, deep, namesOpen}
-use Rattle.rules.specs.Reading.{fieldsOf, bodyStart, mainOf, verdict}
+use Rattle.rules.specs.Checks.{numberOf, Check, check, checkAt, firstFailed}
+use Rattle.rules.specs.Reading.{fieldsOf, bodyStart, mainOf, noFault, firstOf, bookChecks}
 use Rattle.rules.specs.Working.{out, steps, room, width}
 use Rattle.rules.specs.States.{Spot, Tree, place, finish, live, ready, run, made, stuckIn}
-
--- ---- the table of numbers
-
-abbrev pub numberOf : Refusal → ℕ
-numberOf BookLength = 1
-numberOf Counts = 2
-numberOf Lengths = 3
-numberOf EntryMasks = 4
-numberOf (Form at) = 5
-numberOf Limits = 6
-numberOf (Typing at) = 7
-numberOf PacketLength = 8
-numberOf Unpopulated = 9
-numberOf TooWide = 10
-numberOf Positions = 11
-numberOf BufferLength = 12
-numberOf (Stuck at) = 13
-numberOf Input = 14
-
--- "a place, 0 but for three"
-abbrev pub placeOf : Refusal → ℕ
-placeOf BookLength = 0
-placeOf Counts = 0
-placeOf Lengths = 0
-placeOf EntryMasks = 0
-placeOf (Form at) = at
-placeOf Limits = 0
-placeOf (Typing at) = at
-placeOf PacketLength = 0
-placeOf Unpopulated = 0
-placeOf TooWide = 0
-placeOf Positions = 0
-placeOf BufferLength = 0
-placeOf (Stuck at) = at
-placeOf Input = 0
 
 -- an answer as document 01 puts it: a number that turns the call away with its place, or what is answered
 pub data Says : Type 0 where
@@ -67,7 +32,7 @@ pub data Says : Type 0 where
   running : (steps live ready : ℕ) → Says
 
 unfoldable pub refusalSays : Refusal → Says
-refusalSays r = refusal (numberOf r) (placeOf r)
+refusalSays r = refusal (numberOf r) (r .place)
 
 unfoldable pub verdictSays : Verdict → Says
 verdictSays (Accepted z) = accepted (z .fields) (z .tables) (z .parts) (z .deep)
@@ -107,22 +72,28 @@ outcome book packet = record {
   room = room (mainOf book) (startSet packet);
 }
 
-abbrev pub elseNotGiven : Bool → Refusal → Evaluated → Evaluated
-elseNotGiven true r e = e
-elseNotGiven false r e = NotGiven r
+-- 8, 12, 9, 10; `fits` says whether the lent buffers are long enough
+unfoldable pub packetChecks : List ℕ → List ℕ → List Check → List Check
+packetChecks book packet fits =
+    check (eqb (length packet) (fieldsOf book)) PacketLength
+    ∷ (fits
+    ++ (check (not (namesOpen (mainOf book))) Unpopulated
+    ∷ check (leb (width (mainOf book) (startSet packet)) mostPackets) TooWide
+    ∷ []))
 
-abbrev pub evaluatedOf : Verdict → Evaluated → Evaluated
-evaluatedOf (Accepted z) e = e
-evaluatedOf (Refused r) e = NotGiven r
+abbrev pub resultCheck : List ℕ → ℕ → Check
+resultCheck book words = check (leb (mostPackets * fieldsOf book) words) BufferLength
+
+unfoldable pub evaluateChecks : List ℕ → List ℕ → ℕ → List Check
+evaluateChecks book packet words = bookChecks book ++ packetChecks book packet (resultCheck book words ∷ [])
+
+abbrev pub evaluatedBy : Option Refusal → Outcome → Evaluated
+evaluatedBy none o = Given o
+evaluatedBy (some r) o = NotGiven r
 
 -- the answer to a book's bytes, a packet's words and a result buffer of so many words
 unfoldable pub evaluated : List ℕ → List ℕ → ℕ → Evaluated
-evaluated book packet words =
-    evaluatedOf (verdict book)
-    (elseNotGiven (eqb (length packet) (fieldsOf book)) PacketLength
-    (elseNotGiven (leb (mostPackets * fieldsOf book) words) BufferLength
-    (elseNotGiven (not (namesOpen (mainOf book))) Unpopulated
-    (elseNotGiven (leb (width (mainOf book) (startSet packet)) mostPackets) TooWide (Given (outcome book packet))))))
+evaluated book packet words = evaluatedBy (firstFailed (evaluateChecks book packet words)) (outcome book packet)
 
 -- "the packets in the first c·k words of the result, other words kept"
 unfoldable pub overwritten : List ℕ → List ℕ → List ℕ
@@ -144,35 +115,32 @@ startSpot book = record { at = bodyStart book 0; fields = allFields (fieldsOf bo
 unfoldable pub start : List ℕ → List ℕ → Tree
 start book packet = place (startSpot book) (mainOf book) (startSet packet)
 
-abbrev pub elseNotRun : Bool → Refusal → Ran → Ran
-elseNotRun true r a = a
-elseNotRun false r a = NotRun r
-
-abbrev pub ranOf : Verdict → Ran → Ran
-ranOf (Accepted z) a = a
-ranOf (Refused r) a = NotRun r
-
--- the first stuck step, if there is one
-abbrev pub elseStuck : List ℕ → Ran → Ran
-elseStuck [] a = a
-elseStuck (at ∷ l) a = NotRun (Stuck at)
-
 -- "A short schedule gives "running" with steps made, live positions and ready positions"
 abbrev pub stopped : ℕ → Tree → List Packets → Ran
 stopped n t [] = Running (record { steps = n; live = live t; ready = ready t })
 stopped n t (s ∷ l) = Finished (record { steps = n; count = length s })
 
+unfoldable pub runChecks : List ℕ → List ℕ → List ℕ → ℕ → ℕ → List Check
+runChecks book packet schedule words area =
+    bookChecks book
+    ++ (packetChecks book packet (resultCheck book words ∷ check (leb areaWords area) BufferLength ∷ [])
+    ++ (check (leb (room (mainOf book) (startSet packet)) mostPositions) Positions
+    ∷ checkAt (noFault (stuckIn (start book packet) schedule)) Stuck (firstOf (stuckIn (start book packet) schedule))
+    ∷ []))
+
+abbrev pub ranBy : Option Refusal → Ran → Ran
+ranBy none a = a
+ranBy (some r) a = NotRun r
+
+-- where a run of an admitted book stops
+abbrev pub stopOf : List ℕ → List ℕ → List ℕ → Ran
+stopOf book packet schedule =
+    let t = start book packet in
+    stopped (made t schedule) (run t schedule) (finish (run t schedule))
+
 -- the answer to a book, a packet, a schedule, and buffers of so many words
 unfoldable pub ran : List ℕ → List ℕ → List ℕ → ℕ → ℕ → Ran
-ran book packet schedule words area =
-    let t = start book packet in
-    ranOf (verdict book)
-    (elseNotRun (eqb (length packet) (fieldsOf book)) PacketLength
-    (elseNotRun (leb (mostPackets * fieldsOf book) words && leb areaWords area) BufferLength
-    (elseNotRun (not (namesOpen (mainOf book))) Unpopulated
-    (elseNotRun (leb (width (mainOf book) (startSet packet)) mostPackets) TooWide
-    (elseNotRun (leb (room (mainOf book) (startSet packet)) mostPositions) Positions
-    (elseStuck (stuckIn t schedule) (stopped (made t schedule) (run t schedule) (finish (run t schedule)))))))))
+ran book packet schedule words area = ranBy (firstFailed (runChecks book packet schedule words area)) (stopOf book packet schedule)
 
 abbrev pub finalOf : List Packets → Packets
 finalOf [] = []

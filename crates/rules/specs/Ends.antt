@@ -6,14 +6,15 @@ use mathlib.Core.Bool.{true, false}
 use mathlib.Core.Logic.{_↔_, _⊎_}
 use mathlib.Core.List.{List}
 use lib.ListN.{length, take, drop, replicate}
+use Rattle.rules.specs.declared.Reason.the-variants.{PacketLength, Unpopulated, TooWide, Positions, BufferLength}
 use Rattle.rules.specs.declared.Refusal.{Refusal}
-use Rattle.rules.specs.declared.Refusal.the-variants.{PacketLength, Unpopulated, TooWide, Positions, BufferLength}
 use Rattle.rules.specs.declared.Sizes.{Sizes}
 use Rattle.rules.specs.declared.Verdict.the-variants.{Accepted, Refused}
 use Rattle.rules.specs.declared.Ran.{Ran}
 use Rattle.rules.specs.declared.Ran.the-variants.{Finished, Running}
 use Rattle.rules.specs.Packets.{Packet, Packets, Ascending, _∈_, valuesOf}
 use Rattle.rules.specs.Parts.{namesOpen}
+use Rattle.rules.specs.Checks.{noPlace}
 use Rattle.rules.specs.Reading.{fieldsOf, mainOf, verdict}
 use Rattle.rules.specs.Meaning.{Gives}
 use Rattle.rules.specs.Working.{steps, room, width}
@@ -38,13 +39,13 @@ pub record Buffered (book packet : List ℕ) (words area : ℕ) : Type 0 where
 pub data TurnedAway (book packet : List ℕ) (words area : ℕ) : Refusal → Type 0 where
   by-book : {r : Refusal} → verdict book ≡ Refused r → TurnedAway book packet words area r
   by-packet : {z : Sizes} → verdict book ≡ Accepted z → (length packet ≡ fieldsOf book → ⊥)
-      → TurnedAway book packet words area PacketLength
-  by-buffer : Fitting book packet → (words < 16 * fieldsOf book) ⊎ (area < 21760) → TurnedAway book packet words area BufferLength
-  by-table : Buffered book packet words area → namesOpen (mainOf book) ≡ true → TurnedAway book packet words area Unpopulated
+      → TurnedAway book packet words area (noPlace PacketLength)
+  by-buffer : Fitting book packet → (words < 16 * fieldsOf book) ⊎ (area < 21760) → TurnedAway book packet words area (noPlace BufferLength)
+  by-table : Buffered book packet words area → namesOpen (mainOf book) ≡ true → TurnedAway book packet words area (noPlace Unpopulated)
   by-width : Buffered book packet words area → namesOpen (mainOf book) ≡ false → 16 < width (mainOf book) (startSet packet)
-      → TurnedAway book packet words area TooWide
+      → TurnedAway book packet words area (noPlace TooWide)
   by-room : Buffered book packet words area → namesOpen (mainOf book) ≡ false → width (mainOf book) (startSet packet) ≤ 16
-      → 160 < room (mainOf book) (startSet packet) → TurnedAway book packet words area Positions
+      → 160 < room (mainOf book) (startSet packet) → TurnedAway book packet words area (noPlace Positions)
 
 -- ---- finished, or running
 

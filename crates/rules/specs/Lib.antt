@@ -6,6 +6,7 @@ pub mod Parts
 pub mod Typing
 pub mod Books
 pub mod Replacing
+pub mod Checks
 pub mod Reading
 pub mod Meaning
 pub mod Working

@@ -8,11 +8,12 @@ use lib.Dec.{ltb, leb, eqb}
 use lib.ListN.{length, getD, take}
 use Rattle.rules.specs.declared.Reading.{Reading}
 use Rattle.rules.specs.declared.Reading.the-variants.{Next, Wrong}
+use Rattle.rules.specs.declared.Reason.the-variants.{BookLength, Counts, Lengths, EntryMasks, Form, Limits, Typing}
 use Rattle.rules.specs.declared.Refusal.{Refusal}
-use Rattle.rules.specs.declared.Refusal.the-variants.{BookLength, Counts, Lengths, EntryMasks, Form, Limits, Typing}
 use Rattle.rules.specs.declared.Sizes.{Sizes}
 use Rattle.rules.specs.declared.Verdict.{Verdict}
 use Rattle.rules.specs.declared.Verdict.the-variants.{Accepted, Refused}
+use Rattle.rules.specs.Checks.{Check, check, checkAt, firstFailed}
 use Rattle.rules.specs.Masks.{inFields}
 use Rattle.rules.specs.Codes.{operandsOf, partsOf}
 use Rattle.rules.specs.Parts.{Part, Id, Drop, Test, Set, Not, Sum, Seq, Beside, parts, deep}
@@ -205,30 +206,49 @@ typingFaults P =
 
 -- ---- the verdict: the numbers 1 to 7 in their order
 
--- the refusal, unless the test holds
-abbrev pub unless : Bool → Refusal → Verdict → Verdict
-unless true r v = v
-unless false r v = Refused r
+-- did the reading go through, and where did it stop
+abbrev pub goesOn : Reading → Bool
+goesOn (Next a) = true
+goesOn (Wrong a) = false
 
--- the refusal at the place where the reading stopped, if it did
-abbrev pub unlessWrong : Reading → Verdict → Verdict
-unlessWrong (Next a) v = v
-unlessWrong (Wrong a) v = Refused (Form a)
+abbrev pub stopsAt : Reading → ℕ
+stopsAt (Next a) = 0
+stopsAt (Wrong a) = a
 
--- the refusal at the first of the faults, if there is one
-abbrev pub unlessFault : List ℕ → Verdict → Verdict
-unlessFault [] v = v
-unlessFault (at ∷ l) v = Refused (Typing at)
+-- are there no faults, and where is the first
+abbrev pub noFault : List ℕ → Bool
+noFault [] = true
+noFault (at ∷ l) = false
+
+abbrev pub firstOf : List ℕ → ℕ
+firstOf l = getD l 0 0
+
+-- 1 to 6, the layout, the form and the limits
+unfoldable pub formChecks : List ℕ → List Check
+formChecks s =
+    check (leb 2 (length s)) BookLength
+    ∷ check (leb (length s) mostBytes) BookLength
+    ∷ check (leb 1 (fieldsOf s)) Counts
+    ∷ check (leb (fieldsOf s) mostFields) Counts
+    ∷ check (leb (tablesOf s) mostTables) Counts
+    ∷ check (eqb (bodyStart s (suc (tablesOf s))) (length s)) Lengths
+    ∷ check (masksRight s (suc (tablesOf s)) 0) EntryMasks
+    ∷ checkAt (goesOn (readEntries s (suc (tablesOf s)) 0)) Form (stopsAt (readEntries s (suc (tablesOf s)) 0))
+    ∷ check (leb (parts (mainOf s)) mostParts) Limits
+    ∷ check (leb (deep (mainOf s)) mostBeside) Limits
+    ∷ []
+
+-- and 7, the typing
+unfoldable pub bookChecks : List ℕ → List Check
+bookChecks s =
+    formChecks s ++ (checkAt (noFault (typingFaults (policyOf s))) Typing (firstOf (typingFaults (policyOf s))) ∷ [])
 
 unfoldable pub sizesOf : List ℕ → Sizes
 sizesOf s = record { fields = fieldsOf s; tables = tablesOf s; parts = parts (mainOf s); deep = deep (mainOf s) }
 
+abbrev pub verdictBy : Option Refusal → Sizes → Verdict
+verdictBy none z = Accepted z
+verdictBy (some r) z = Refused r
+
 unfoldable pub verdict : List ℕ → Verdict
-verdict s =
-    unless (leb 2 (length s) && leb (length s) mostBytes) BookLength
-    (unless (leb 1 (fieldsOf s) && (leb (fieldsOf s) mostFields && leb (tablesOf s) mostTables)) Counts
-    (unless (eqb (bodyStart s (suc (tablesOf s))) (length s)) Lengths
-    (unless (masksRight s (suc (tablesOf s)) 0) EntryMasks
-    (unlessWrong (readEntries s (suc (tablesOf s)) 0)
-    (unless (leb (parts (mainOf s)) mostParts && leb (deep (mainOf s)) mostBeside) Limits
-    (unlessFault (typingFaults (policyOf s)) (Accepted (sizesOf s))))))))
+verdict s = verdictBy (firstFailed (bookChecks s)) (sizesOf s)

@@ -2,7 +2,7 @@
 // What the words mean stands under specs/, and what is shown of it under proofs/.
 ghost use mathlib.Core.Path.{_≡_};
 ghost use Rattle.rules.specs.Codes.{shapeAt};
-ghost use Rattle.rules.specs.Answers.{numberOf, placeOf};
+ghost use Rattle.rules.specs.Checks.{noPlace, numberOf};
 
 // How one packet lies to another.
 pub enum Order {
@@ -23,22 +23,28 @@ pub enum Reading {
     Wrong(usize),
 }
 
-// Why a call is turned away, and where: document 01, "Numbers that turn a call away", 1 to 14 in order.
-pub enum Refusal {
+// Why a call is turned away: document 01, "Numbers that turn a call away", 1 to 14 in order.
+pub enum Reason {
     BookLength,
     Counts,
     Lengths,
     EntryMasks,
-    Form(usize),
+    Form,
     Limits,
-    Typing(usize),
+    Typing,
     PacketLength,
     Unpopulated,
     TooWide,
     Positions,
     BufferLength,
-    Stuck(usize),
+    Stuck,
     Input,
+}
+
+// Why, and where in the book: 0 but for three reasons.
+pub struct Refusal {
+    pub reason: Reason,
+    pub place: usize,
 }
 
 // What an accepted book says of itself: k, m, n and D.
@@ -155,42 +161,28 @@ pub fn shape_of(code: u8) -> Shape
 pub fn number_of(r: Refusal) -> usize
     ensures { λ n. ⌜ n ≡ numberOf r ⌝ }
 {
-    match r {
-        Refusal::BookLength => 1,
-        Refusal::Counts => 2,
-        Refusal::Lengths => 3,
-        Refusal::EntryMasks => 4,
-        Refusal::Form(_) => 5,
-        Refusal::Limits => 6,
-        Refusal::Typing(_) => 7,
-        Refusal::PacketLength => 8,
-        Refusal::Unpopulated => 9,
-        Refusal::TooWide => 10,
-        Refusal::Positions => 11,
-        Refusal::BufferLength => 12,
-        Refusal::Stuck(_) => 13,
-        Refusal::Input => 14,
+    let reason = r.reason;
+    match reason {
+        Reason::BookLength => 1,
+        Reason::Counts => 2,
+        Reason::Lengths => 3,
+        Reason::EntryMasks => 4,
+        Reason::Form => 5,
+        Reason::Limits => 6,
+        Reason::Typing => 7,
+        Reason::PacketLength => 8,
+        Reason::Unpopulated => 9,
+        Reason::TooWide => 10,
+        Reason::Positions => 11,
+        Reason::BufferLength => 12,
+        Reason::Stuck => 13,
+        Reason::Input => 14,
     }
 }
 
-// The place of a refusal: 0 but for three.
-pub fn place_of(r: Refusal) -> usize
-    ensures { λ at. ⌜ at ≡ placeOf r ⌝ }
+// A refusal with no place.
+pub fn no_place(reason: Reason) -> Refusal
+    ensures { λ r. ⌜ r ≡ noPlace reason ⌝ }
 {
-    match r {
-        Refusal::Form(at) => at,
-        Refusal::Typing(at) => at,
-        Refusal::Stuck(at) => at,
-        Refusal::BookLength => 0,
-        Refusal::Counts => 0,
-        Refusal::Lengths => 0,
-        Refusal::EntryMasks => 0,
-        Refusal::Limits => 0,
-        Refusal::PacketLength => 0,
-        Refusal::Unpopulated => 0,
-        Refusal::TooWide => 0,
-        Refusal::Positions => 0,
-        Refusal::BufferLength => 0,
-        Refusal::Input => 0,
-    }
+    Refusal { reason, place: 0 }
 }
