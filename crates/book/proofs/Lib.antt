@@ -1,5 +1,2 @@
 pub mod PlaceLaws
-pub mod CodeLaws
-pub mod ReadLaws
-pub mod CountLaws
-pub mod FormLaws
+pub mod LayoutLaws

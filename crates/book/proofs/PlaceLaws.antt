@@ -19,9 +19,6 @@ module _ (c : ℕ) (x : Shape) (e : x ≡ shapeAt c) where
   pub parts-few : x .parts ≤ 2
   parts-few = rw e (row-small c .1)
 
-pub below-is : (s : List ℕ) (at : ℕ) (x : Shape) → x ≡ shapeAt (getD s at 0) → at + 1 + x .operands ≡ below s at
-below-is s at x e = rw e
-
 -- the place after a part
 pub after-zero : (s : List ℕ) (d at : ℕ) → d ≡ 0 → at ≡ after s d at
 unfolding after

@@ -1,3 +1,1 @@
--- What the contracts of the book name beside the rules.
-pub mod Counting
-pub mod Form
+-- The contracts of the book name the rules alone.

@@ -1,5 +1,19 @@
+-- What is shown for the proofs of the code.
+pub mod MaskTests
+pub mod EntryLaws
+pub mod OperandLaws
+pub mod PackLaws
+pub mod LeafLaws
+pub mod TallyLaws
 pub mod WalkLaws
-pub mod JudgeLaws
-pub mod FaultLaws
-pub mod VerdictLaws
-pub mod Inside
+pub mod CycleLaws
+pub mod BesideLaws
+pub mod BodyLaws
+pub mod CountLaws
+pub mod FrontLaws
+pub mod SizeLaws
+pub mod TableLaws
+pub mod FillLaws
+pub mod SumLaws
+pub mod TurnLaws
+pub mod EndLaws

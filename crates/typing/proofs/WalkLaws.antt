@@ -1,180 +1,254 @@
--- Plain laws of the walk that gives T and M: each answer from the masks below it.
-use Prim.Native.Nat.{ℕ, _+_, _-_, _^_, _%_, _<_, _≤_}
+-- The walk of a part by its code: each answer from the walks below it.
+use Prim.Native.Nat.{ℕ, zero, suc, _+_, _-_, _/_, _%_, _<_, _≤_}
 use native.Mathlib.Omega.{arith}
-use native.Mathlib.Nat.{mod-eq-of-lt, mul-mod-left}
 use mathlib.Core.Path.{_≡_, refl, sym, ap, _∙_}
 use mathlib.Core.Bool.{Bool, true, false}
+use mathlib.Core.Logic.{inr}
 use mathlib.Core.List.{List}
-use mathlib.Core.Option.{Option, none, some}
-use lib.Bits.{bitOr, or-mod}
+use lib.Dec.{eqb}
 use lib.ListN.{length, getD}
-use lib.Pow.{pow-add}
-use Rattle.rules.specs.Codes.{shapeAt, partsOf}
-use Rattle.rules.specs.declared.Shape.{Shape}
-use Rattle.rules.specs.Masks.{field}
-use Rattle.rules.specs.Parts.{Part, Id}
-use Rattle.rules.specs.Typing.{tested, written}
-use Rattle.rules.specs.Books.{useOf}
-use Rattle.rules.specs.Reading.{below, after, built, partAt, readsAt, writesAt, bodyStart, bodyAt, useAt}
-use Rattle.book.specs.Counting.{uses}
-use Rattle.book.proofs.CodeLaws.{by-code, part-zero, part-end, part-suc}
-use Rattle.book.proofs.PlaceLaws.{after-zero, after-end, after-none, after-one, after-two, below-is, parts-few}
-use Rattle.typing.specs.declared.Masks.{Masks}
-use Rattle.typing.specs.Judging.{low, masksOf, masksAt}
+use Rattle.rules.specs.declared.Reading.{Reading}
+use Rattle.rules.specs.declared.Reading.the-variants.{Next, Wrong}
+use Rattle.rules.specs.Codes.{operandsOf, partsOf}
+use Rattle.rules.specs.Parts.{Part, Id, Not, Sum, Seq, Beside, size}
+use Rattle.rules.specs.Books.{Scope, Bytes}
+use Rattle.rules.specs.Reading.{andThen, stands, readTimes, readOperands, operandFits, readPart, after, partAt, built, below, fieldsOf, tablesOf, readsAt, writesAt}
+use Rattle.rules.proofs.ReadingLaws.{byte-short, byte-next, part-wrong, part-deep, then-next, stands-known, stands-37}
+use Rattle.rules.proofs.Decoding.{unpopulated, Names, read, read-end}
+use Rattle.rules.proofs.CodeLaws.{by-code}
+use Rattle.typing.specs.Walking.{Tally, told, Way, Going, Stopped, wayOf, andOn, walked, shut, scopeAt, predOf, inMain, openOf, Sound}
+use Rattle.typing.specs.Walking.{leafRead, leafAt}
+use Rattle.typing.proofs.LeafLaws.{leaf-read, leaf-stop}
+use Rattle.typing.proofs.TallyLaws.{stepped, told-not, told-sum, told-seq, told-beside, entered, bared, met}
 
-abbrev made : ℕ → ℕ → ℕ → Masks
-made t w n = record { tests = t; writes = w; next = n }
+pub deeper : (d : ℕ) → (d ≡ 0 → ⊥) → d ≡ suc (d - 1)
+deeper zero h = absurd (h refl)
+deeper (suc d) h = omega arith
 
--- ---- eight bits
+same-leaf : (s : List ℕ) (at : ℕ) (l r l′ r′ : Part) (c : ℕ) → partsOf c ≡ 0 → built s (shut s) at c l r ≡ built s (shut s) at c l′ r′
+unfolding built
+same-leaf s at l r l′ r′ =
+    by-code (λ c. partsOf c ≡ 0 → built s (shut s) at c l r ≡ built s (shut s) at c l′ r′) (λ e. refl) (λ e. refl) (λ e. refl)
+    (λ e. refl) (λ e. absurd (omega arith)) (λ e. absurd (omega arith)) (λ e. absurd (omega arith)) (λ e. absurd (omega arith))
+    (λ e. refl) (λ c e. refl)
 
-pub low-or : (a b : ℕ) → low (bitOr a b) ≡ bitOr (low a) (low b)
-low-or a b = or-mod a b 8
+-- the part that a code with no operands builds
+two-part : (s : List ℕ) (named : ℕ → Part) (d at code : ℕ) → getD s at 0 ≡ code → operandsOf code ≡ 0
+    → partAt s named (suc d) at ≡ built s named at code (partAt s named d (at + 1 + 0)) (partAt s named d (after s d (at + 1 + 0)))
+unfolding partAt
+two-part s named d at code e n = rw (e, n)
 
-pub low-small : (a : ℕ) → a < 256 → low a ≡ a
-low-small a h = mod-eq-of-lt h
+leaf-part : (s : List ℕ) (d at : ℕ) → partsOf (getD s at 0) ≡ 0 → partAt s (shut s) (suc d) at ≡ leafAt s at
+unfolding partAt
+leaf-part s d at z = same-leaf s at (partAt s (shut s) d (below s at)) (partAt s (shut s) d (after s d (below s at))) Id Id (getD s at 0) z
 
-pub low-field : (f : ℕ) → 8 ≤ f → 0 ≡ low (field f)
-low-field f h =
-    let e : f ≡ f - 8 + 8 = omega arith in
-    rw e (sym (ap (λ (x : ℕ). x % 256) (pow-add 2 (f - 8) 8) ∙ mul-mod-left (2 ^ (f - 8)) 256))
+module _ (s : List ℕ) (way : ℕ) where
+  pub walk-short : (d : ℕ) (t : Tally) → length s ≤ t .at → walked s way d t ≡ Stopped (length s)
+  unfolding walked
+  walk-short d t h =
+      rw (part-wrong s (scopeAt s way) d (predOf way) (t .at) (length s) (sym (byte-short s (stands (inMain way) (predOf way)) (t .at) h)))
 
--- ---- the masks of a code and its operands
+  pub walk-stop : (d : ℕ) (t : Tally) → t .at < length s → stands (inMain way) (predOf way) (getD s (t .at) 0) ≡ false
+      → walked s way d t ≡ Stopped (t .at)
+  unfolding walked
+  walk-stop d t h e = rw (leaf-stop s (scopeAt s way) d (predOf way) (t .at) h e)
 
--- a use of table x
-module _ (s : List ℕ) (x next r w : ℕ) (lr : r < 256) (lw : w < 256) (er : r ≡ readsAt s x) (ew : w ≡ writesAt s x) where
-  pub use-declared : (main : Bool) → main ≡ true → made (bitOr r w) w next ≡ masksOf (uses s main x) next
-  unfolding useAt tested written
-  use-declared main e = rw e (go (bodyAt s x))
+  pub walk-deep : (d : ℕ) (t : Tally) → t .at < length s → d ≡ 0 → walked s way d t ≡ Stopped (t .at)
+  unfolding walked
+  walk-deep d t h z = go (stands (inMain way) (predOf way) (getD s (t .at) 0)) refl
     where
-      go : (b : Option Part) → made (bitOr r w) w next ≡ masksOf (useOf x (readsAt s x) (writesAt s x) (bodyStart s x) b) next
-      go none = rw (← er, ← ew, low-or r w, low-small r lr, low-small w lw)
-      go (some p) = rw (← er, ← ew, low-or r w, low-small r lr, low-small w lw)
+      go : (b : Bool) → stands (inMain way) (predOf way) (getD s (t .at) 0) ≡ b
+          → wayOf (readPart s (scopeAt s way) d (predOf way) (t .at)) (told (partAt s (shut s) d (t .at)) (openOf way) t) ≡ Stopped (t .at)
+      go false e = rw (leaf-stop s (scopeAt s way) d (predOf way) (t .at) h e)
+      go true e =
+          rw (part-deep s (scopeAt s way) d (predOf way) (t .at) (t .at + 1)
+          (sym (byte-next s (stands (inMain way) (predOf way)) (t .at) h e)) z)
 
-pub use-id : (s : List ℕ) (x next : ℕ) (main : Bool) → main ≡ false → made 0 0 next ≡ masksOf (uses s main x) next
-unfolding tested written
-use-id s x next main e = rw e
+  -- ---- a code with no parts below it
+  pub leaf-any : (d at : ℕ) → at < length s → partsOf (getD s at 0) ≡ 0
+      → (readPart s (scopeAt s way) (suc d) (predOf way) at ≡ leafRead s way at) × (partAt s (shut s) (suc d) at ≡ leafAt s at)
+  leaf-any d at h z = (go (stands (inMain way) (predOf way) (getD s at 0)) refl, leaf-part s d at z)
+    where
+      go : (b : Bool) → stands (inMain way) (predOf way) (getD s at 0) ≡ b
+          → readPart s (scopeAt s way) (suc d) (predOf way) at ≡ leafRead s way at
+      go false e =
+          leaf-stop s (scopeAt s way) (suc d) (predOf way) at h e ∙ sym (leaf-stop s (scopeAt s way) 1 (predOf way) at h e)
+      go true e =
+          leaf-read s (scopeAt s way) d (predOf way) at (getD s at 0) refl h e z
+          ∙ sym (leaf-read s (scopeAt s way) 0 (predOf way) at (getD s at 0) refl h e z)
 
--- the masks of a code with no part below it
-module _ (s : List ℕ) (named : ℕ → Part) (at next : ℕ) where
-  module _ (a : ℕ) (ea : a ≡ getD s (at + 1) 0) where
-    pub own-test : (m : ℕ) → getD s at 0 ≡ 2 → m ≡ low (field a) → made m 0 next ≡ masksOf (built s named at (getD s at 0) Id Id) next
-    unfolding built tested written
-    own-test m e q = rw (e, q, ea)
+  -- ---- a negation
+  not-read : (d at : ℕ) → at < length s → getD s at 0 ≡ 4
+      → readPart s (scopeAt s way) (suc d) (predOf way) at ≡ readPart s (scopeAt s way) d true (at + 1)
+  unfolding readPart readOperands
+  not-read d at h e =
+      let st : stands (inMain way) (predOf way) (getD s at 0) ≡ true
+      = stands-known (inMain way) (predOf way) (getD s at 0) (omega arith) (λ q. omega arith) in
+      rw (← byte-next s (stands (inMain way) (predOf way)) at h st, e) (then-next (readPart s (scopeAt s way) d true (at + 1)))
 
-    pub own-set : (m : ℕ) → getD s at 0 ≡ 3 → m ≡ low (field a) → made 0 m next ≡ masksOf (built s named at (getD s at 0) Id Id) next
-    unfolding built tested written
-    own-set m e q = rw (e, q, ea)
+  not-part : (d at : ℕ) → getD s at 0 ≡ 4 → partAt s (shut s) (suc d) at ≡ Not (partAt s (shut s) d (at + 1))
+  unfolding built
+  not-part d at e =
+      let z : at + 1 + 0 ≡ at + 1 = omega arith in
+      rw z at (two-part s (shut s) d at 4 e refl)
 
-    pub own-use : (m : Masks) → getD s at 0 ≡ 8 → m ≡ masksOf (named a) next → m ≡ masksOf (built s named at (getD s at 0) Id Id) next
-    unfolding built
-    own-use m e q = q ∙ rw (ea, e)
+  pub walk-not : (w d : ℕ) (t : Tally) → openOf w ≡ openOf way → predOf w ≡ true → inMain w ≡ inMain way → t .at < length s
+      → getD s (t .at) 0 ≡ 4 → walked s way (suc d) t ≡ walked s w d (stepped 0 t)
+  unfolding walked
+  walk-not w d t eo ep em h e =
+      let z : t .at + 1 ≡ t .at + 1 + 0 = omega arith in
+      let f : ℕ → Way = λ x. wayOf (readPart s (scopeAt s way) d true x) (told (partAt s (shut s) d x) (openOf way) (stepped 0 t)) in
+      rw (not-read d (t .at) h e, not-part d (t .at) e, told-not (partAt s (shut s) d (t .at + 1)) (openOf way) t, eo, ep, em) (ap f z)
 
-  pub own-plain : partsOf (getD s at 0) ≡ 0 → (getD s at 0 ≡ 2 → ⊥) → (getD s at 0 ≡ 3 → ⊥) → (getD s at 0 ≡ 8 → ⊥)
-      → made 0 0 next ≡ masksOf (built s named at (getD s at 0) Id Id) next
-  unfolding built tested written
-  own-plain =
-      by-code (λ c. partsOf c ≡ 0 → (c ≡ 2 → ⊥) → (c ≡ 3 → ⊥) → (c ≡ 8 → ⊥) → made 0 0 next ≡ masksOf (built s named at c Id Id) next)
-      (λ e a b d. refl) (λ e a b d. refl) (λ e a b d. absurd (a refl)) (λ e a b d. absurd (b refl)) (λ e a b d. refl) (λ e a b d. refl)
-      (λ e a b d. refl) (λ e a b d. absurd (omega arith)) (λ e a b d. absurd (d refl)) (λ n e a b d. refl) (getD s at 0)
+-- ---- a sum or a sequence
+module _ (s : List ℕ) (sound : Sound s) (way : ℕ) where
+  pub bytes : Bytes s
+  bytes i = omega (arith, sound .bytes i)
 
--- ---- by how many parts stand below a code
+  pub names : Names (scopeAt s way) (shut s)
+  unfolding shut
+  names h x l u = unpopulated (readsAt s x) (writesAt s x)
 
-module _ (s : List ℕ) (named : ℕ → Part) (at n : ℕ) (l r : Part) where
-  over-none : (c : ℕ) → partsOf c ≡ 0 → masksOf (built s named at c Id Id) n ≡ masksOf (built s named at c l r) n
-  unfolding built tested written
-  over-none =
-      by-code (λ c. partsOf c ≡ 0 → masksOf (built s named at c Id Id) n ≡ masksOf (built s named at c l r) n) (λ e. refl) (λ e. refl)
-      (λ e. refl) (λ e. refl) (λ e. absurd (omega arith)) (λ e. absurd (omega arith)) (λ e. absurd (omega arith))
-      (λ e. absurd (omega arith)) (λ e. refl) (λ c e. refl)
+  then-same : (f : ℕ → Reading) (r : Reading) → andThen r (readTimes 1 f) ≡ andThen r f
+  then-same f (Next m) = then-next (f m)
+  then-same f (Wrong a) = refl
 
-  over-one : (c : ℕ) → partsOf c ≡ 1 → masksOf l n ≡ masksOf (built s named at c l r) n
-  unfolding built tested written
-  over-one =
-      by-code (λ c. partsOf c ≡ 1 → masksOf l n ≡ masksOf (built s named at c l r) n) (λ e. absurd (omega arith))
-      (λ e. absurd (omega arith))
-      (λ e. absurd (omega arith)) (λ e. absurd (omega arith)) (λ e. refl) (λ e. absurd (omega arith)) (λ e. absurd (omega arith))
-      (λ e. absurd (omega arith)) (λ e. absurd (omega arith)) (λ c e. absurd (omega arith))
+  two-read : (d at code : ℕ) → getD s at 0 ≡ code → operandsOf code ≡ 0 → partsOf code ≡ 2 → eqb code 4 ≡ false
+      → stands (inMain way) (predOf way) code ≡ true → at < length s
+      → readPart s (scopeAt s way) (suc d) (predOf way) at
+      ≡ andThen (readPart s (scopeAt s way) d (predOf way) (at + 1 + 0)) (readPart s (scopeAt s way) d (predOf way))
+  unfolding readPart readOperands
+  two-read d at code e n0 np n4 st h =
+      let z : at + 1 + 0 ≡ at + 1 = omega arith in
+      rw (← byte-next s (stands (inMain way) (predOf way)) at h (rw e st), e, n0, np, n4, z)
+      (then-same (readPart s (scopeAt s way) d (predOf way)) (readPart s (scopeAt s way) d (predOf way) (at + 1)))
 
-  over-both : (c : ℕ) → partsOf c ≡ 2 → (c ≡ 7 → ⊥)
-      → made (bitOr (low (tested l)) (low (tested r))) (bitOr (low (written l)) (low (written r))) n ≡ masksOf (built s named at c l r) n
-  unfolding built tested written
-  over-both =
-      by-code (λ c. partsOf c ≡ 2 → (c ≡ 7 → ⊥)
-      → made (bitOr (low (tested l)) (low (tested r))) (bitOr (low (written l)) (low (written r))) n ≡ masksOf (built s named at c l r) n)
-      (λ e h. absurd (omega arith)) (λ e h. absurd (omega arith)) (λ e h. absurd (omega arith)) (λ e h. absurd (omega arith))
-      (λ e h. absurd (omega arith)) (λ e h. rw (low-or (tested l) (tested r), low-or (written l) (written r)))
-      (λ e h. rw (low-or (tested l) (tested r), low-or (written l) (written r))) (λ e h. absurd (h refl))
-      (λ e h. absurd (omega arith)) (λ c e h. absurd (omega arith))
+  -- g is what the code builds of its two parts
+  walk-two : (d code : ℕ) (g : Part → Part → Part) (t : Tally) → getD s (t .at) 0 ≡ code → operandsOf code ≡ 0 → partsOf code ≡ 2
+      → eqb code 4 ≡ false → stands (inMain way) (predOf way) code ≡ true → t .at < length s
+      → ((l r : Part) → built s (shut s) (t .at) code l r ≡ g l r)
+      → ((p q : Part) → told (g p q) (openOf way) t ≡ told q (openOf way) (told p (openOf way) (stepped 0 t)))
+      → walked s way (suc d) t ≡ andOn (walked s way d (stepped 0 t)) (walked s way d)
+  unfolding walked
+  walk-two d code g t e n0 np n4 st h bg tg =
+      rw (two-read d (t .at) code e n0 np n4 st h, part, tg p q) (go (readPart s (scopeAt s way) d (predOf way) (t .at + 1 + 0)) refl)
+    where
+      c : Scope
+      c = scopeAt s way
 
-  over-beside : (wp wq c : ℕ) → c ≡ 7 → wp ≡ getD s (at + 1) 0 → wq ≡ getD s (at + 2) 0 → wp < 256 → wq < 256
-      → made (bitOr (low (tested l)) (low (tested r))) (bitOr wp wq) n ≡ masksOf (built s named at c l r) n
-  unfolding built tested written
-  over-beside wp wq c e ep eq lp lq =
-      rw (e, ← ep, ← eq, low-or (tested l) (tested r), low-or wp wq, low-small wp lp, low-small wq lq)
+      p : Part
+      p = partAt s (shut s) d (t .at + 1 + 0)
 
--- ---- the part at a place
+      q : Part
+      q = partAt s (shut s) d (after s d (t .at + 1 + 0))
 
-pub masks-zero : (s : List ℕ) (named : ℕ → Part) (d at : ℕ) → d ≡ 0 → made 0 0 at ≡ masksAt s named d at
-unfolding masksAt tested written
-masks-zero s named d at e = rw (part-zero s named d at e, ← after-zero s d at e)
+      o : ℕ
+      o = openOf way
 
-pub masks-end : (s : List ℕ) (named : ℕ → Part) (d at : ℕ) → length s ≤ at → made 0 0 at ≡ masksAt s named d at
-unfolding masksAt tested written
-masks-end s named d at h = rw (part-end s named d at h, ← after-end s d at h)
+      part : partAt s (shut s) (suc d) (t .at) ≡ g p q
+      part = two-part s (shut s) d (t .at) code e n0 ∙ bg p q
 
--- x is the row of the code at the place
-module _ (s : List ℕ) (named : ℕ → Part) (d at : ℕ) (hd : d ≡ 0 → ⊥) (h : at < length s) (x : Shape) (ex : x ≡ shapeAt (getD s at 0)) where
-  left : Part
-  left = partAt s named (d - 1) (below s at)
+      go : (r : Reading) → readPart s c d (predOf way) (t .at + 1 + 0) ≡ r
+          → wayOf (andThen r (readPart s c d (predOf way))) (told q o (told p o (stepped 0 t)))
+          ≡ andOn (wayOf r (told p o (stepped 0 t)))
+          (λ u. wayOf (readPart s c d (predOf way) (u .at)) (told (partAt s (shut s) d (u .at)) (openOf way) u))
+      go (Wrong a) w = refl
+      go (Next m) w =
+          let g = read s bytes c (shut s) names d (predOf way) (t .at + 1 + 0) m w in
+          let n : t .at + 1 + 0 + size p ≡ m = sym (read-end s c (shut s) d (predOf way) (t .at + 1 + 0) m g) in
+          rw (n, g .0)
 
-  right : Part
-  right = partAt s named (d - 1) (after s (d - 1) (below s at))
+  pub walk-sum : (d : ℕ) (t : Tally) → getD s (t .at) 0 ≡ 5 → t .at < length s
+      → walked s way (suc d) t ≡ andOn (walked s way d (stepped 0 t)) (walked s way d)
+  unfolding built
+  walk-sum d t e h =
+      walk-two d 5 Sum t e refl refl refl (stands-known (inMain way) (predOf way) 5 (omega arith) (λ q. omega arith)) h (λ l r. refl)
+      (λ p q. told-sum p q (openOf way) t)
 
-  to-here : (next : ℕ) → next ≡ after s d at → masksOf (built s named at (getD s at 0) left right) next ≡ masksAt s named d at
-  unfolding masksAt left right
-  to-here next e = rw (part-suc s named d at hd, e)
+  pub walk-seq : (d : ℕ) (t : Tally) → getD s (t .at) 0 ≡ 6 → t .at < length s
+      → walked s way (suc d) t ≡ andOn (walked s way d (stepped 0 t)) (walked s way d)
+  unfolding built
+  walk-seq d t e h =
+      walk-two d 6 Seq t e refl refl refl (stands-known (inMain way) (predOf way) 6 (omega arith) (λ q. omega arith)) h (λ l r. refl)
+      (λ p q. told-seq p q (openOf way) t)
 
-  row : x .parts ≡ partsOf (getD s at 0)
-  row = ap (λ (y : Shape). y .parts) ex
+  -- ---- a concurrent part
+  beside-read : (d at : ℕ) → getD s at 0 ≡ 7 → predOf way ≡ false → at < length s
+      → readPart s (scopeAt s way) (suc d) (predOf way) at
+      ≡ andThen (readOperands s (operandFits (fieldsOf s) (tablesOf s) 7) 2 0 (at + 1))
+      (readTimes 2 (readPart s (scopeAt s way) d (predOf way)))
+  unfolding readPart
+  beside-read d at e ep h =
+      let st : stands (inMain way) (predOf way) (getD s at 0) ≡ true
+      = stands-37 (inMain way) (predOf way) (getD s at 0) (inr e) ∙ rw ep in
+      rw (← byte-next s (stands (inMain way) (predOf way)) at h st, e)
 
-  pub masks-leaf : (o : Masks) → o ≡ masksOf (built s named at (getD s at 0) Id Id) (at + 1 + x .operands) → x .parts ≡ 0
-      → o ≡ masksAt s named d at
-  masks-leaf o eo z =
-      eo ∙ over-none s named at (at + 1 + x .operands) left right (getD s at 0) (sym row ∙ z)
-      ∙ to-here (at + 1 + x .operands) (after-none s d at hd h x ex z)
+  pub beside-stop : (d a : ℕ) (t : Tally) → getD s (t .at) 0 ≡ 7 → predOf way ≡ false → t .at < length s
+      → readOperands s (operandFits (fieldsOf s) (tablesOf s) 7) 2 0 (t .at + 1) ≡ Wrong a → walked s way (suc d) t ≡ Stopped a
+  unfolding walked
+  beside-stop d a t e ep h w = rw (beside-read d (t .at) e ep h, w)
 
-  module _ (l : Masks) (el : l ≡ masksAt s named (d - 1) (at + 1 + x .operands)) where
-    left-is : l ≡ masksOf left (after s (d - 1) (below s at))
-    unfolding masksAt left
-    left-is = el ∙ rw (below-is s at x ex)
+  four : (openOf (way + 4) ≡ suc (openOf way)) × (predOf (way + 4) ≡ predOf way) × (inMain (way + 4) ≡ inMain way)
+  four =
+      let a : (way + 4) / 2 % 2 ≡ way / 2 % 2 = omega arith in
+      let b : (way + 4) % 2 ≡ way % 2 = omega arith in
+      (omega arith, ap (λ (n : ℕ). eqb n 1) a, ap (λ (n : ℕ). eqb n 0) b)
 
-    pub masks-one : x .parts ≡ 1 → l ≡ masksAt s named d at
-    masks-one z =
-        let n : after s (d - 1) (below s at) ≡ after s d at
-        = after-one s d at hd h x ex (after s (d - 1) (below s at)) (rw (below-is s at x ex)) z in
-        left-is ∙ over-one s named at (after s (d - 1) (below s at)) left right (getD s at 0) (sym row ∙ z)
-        ∙ to-here (after s (d - 1) (below s at)) n
+  beside-part-is : (d at : ℕ) → getD s at 0 ≡ 7
+      → partAt s (shut s) (suc d) at
+      ≡ Beside (getD s (at + 1) 0) (getD s (at + 2) 0) (partAt s (shut s) d (at + 1 + 2)) (partAt s (shut s) d (after s d (at + 1 + 2)))
+  unfolding partAt built
+  beside-part-is d at e = rw e
 
-    module _ (r : Masks) (er : r ≡ masksAt s named (d - 1) (l .next)) (n0 : x .parts ≡ 0 → ⊥) (n1 : x .parts ≡ 1 → ⊥) where
-      end : ℕ
-      end = after s (d - 1) (after s (d - 1) (below s at))
+  pub walk-beside : (d e : ℕ) (t : Tally) → getD s (t .at) 0 ≡ 7 → predOf way ≡ false → t .at < length s
+      → readOperands s (operandFits (fieldsOf s) (tablesOf s) 7) 2 0 (t .at + 1) ≡ Next e → e ≡ t .at + 1 + 2
+      → walked s way (suc d) t
+      ≡ andOn (walked s (way + 4) d (entered (openOf way) t)) (λ l. andOn (walked s (way + 4) d (bared l))
+      (λ r. Going (met (getD s (t .at + 1) 0) (getD s (t .at + 2) 0) t l r)))
+  unfolding walked
+  walk-beside d e t ec ep h w z =
+      rw (beside-read d (t .at) ec ep h, w, z, beside-part-is d (t .at) ec, told-beside wp wq p q (openOf way) t, four .0, four .1, four .2)
+      (go (readPart s c d (predOf way) (t .at + 1 + 2)) refl)
+    where
+      c : Scope
+      c = scopeAt s way
 
-      end-is : end ≡ after s d at
-      unfolding end
-      end-is = after-two s d at hd h x ex (after s (d - 1) (below s at)) end (rw (below-is s at x ex)) refl n0 n1
+      f : ℕ → Reading
+      f = readPart s c d (predOf way)
 
-      right-is : r ≡ masksOf right end
-      unfolding masksAt right end
-      right-is = er ∙ rw left-is
+      wp : ℕ
+      wp = getD s (t .at + 1) 0
 
-      two : partsOf (getD s at 0) ≡ 2
-      two = let f = parts-few (getD s at 0) x ex in omega (arith, row)
+      wq : ℕ
+      wq = getD s (t .at + 2) 0
 
-      pub masks-both : (getD s at 0 ≡ 7 → ⊥)
-          → made (bitOr (l .tests) (r .tests)) (bitOr (l .writes) (r .writes)) (r .next) ≡ masksAt s named d at
-      masks-both n7 = rw (left-is, right-is) (over-both s named at end left right (getD s at 0) two n7 ∙ to-here end end-is)
+      p : Part
+      p = partAt s (shut s) d (t .at + 1 + 2)
 
-      pub masks-beside : (wp wq : ℕ) → getD s at 0 ≡ 7 → wp ≡ getD s (at + 1) 0 → wq ≡ getD s (at + 2) 0 → wp < 256 → wq < 256
-          → made (bitOr (l .tests) (r .tests)) (bitOr wp wq) (r .next) ≡ masksAt s named d at
-      masks-beside wp wq e ep eq lp lq =
-          rw (left-is, right-is) (over-beside s named at end left right wp wq (getD s at 0) e ep eq lp lq ∙ to-here end end-is)
+      q : Part
+      q = partAt s (shut s) d (after s d (t .at + 1 + 2))
+
+      o : ℕ
+      o = openOf way
+
+      l : Tally
+      l = told p (suc o) (entered o t)
+
+      all : Tally
+      all = met wp wq t l (told q (suc o) (bared l))
+
+      second : (m : ℕ) (r : Reading) → wayOf (andThen r (λ x. Next x)) all ≡ andOn (wayOf r (told q (suc o) (bared l))) (λ u. Going (met wp wq t l u))
+      second m (Wrong a) = refl
+      second m (Next a) = refl
+
+      go : (r : Reading) → f (t .at + 1 + 2) ≡ r
+          → wayOf (andThen r (readTimes 1 f)) all
+          ≡ andOn (wayOf r l) (λ u. andOn (wayOf (f (u .at)) (told (partAt s (shut s) d (u .at)) (suc o) (bared u)))
+          (λ v. Going (met wp wq t u v)))
+      go (Wrong a) w = refl
+      go (Next m) w =
+          let g = read s bytes c (shut s) names d (predOf way) (t .at + 1 + 2) m w in
+          let n : m ≡ l .at = read-end s c (shut s) d (predOf way) (t .at + 1 + 2) m g in
+          let k : after s d (t .at + 1 + 2) ≡ l .at = g .0 ∙ n in
+          ap (λ (x : ℕ). wayOf (andThen (f x) (λ y. Next y)) all) n ∙ second m (f (l .at))
+          ∙ ap (λ (x : ℕ). andOn (wayOf (f (l .at)) (told (partAt s (shut s) d x) (suc o) (bared l))) (λ v. Going (met wp wq t l v))) k

@@ -1,262 +1,695 @@
-// The two masks of a part and the number 7 from one walk, and the whole verdict on a book.
+// One walk over each body: its form, its parts, its concurrent depth, its masks, its first wrong concurrent part and the uses of
+// tables, all in one reading from left to right; then the verdict on a book by arithmetic.
+use rules::Reading;
+use rules::Reason;
 use rules::Refusal;
+use rules::Sizes;
 use rules::Verdict;
 ghost use mathlib.Core.Path.{_≡_};
-ghost use mathlib.Core.Bool.{cond};
-ghost use Prim.Native.Nat.{_<_};
-ghost use lib.ListN.{getD, length};
-ghost use Rattle.rules.specs.Codes.{partsOf};
-ghost use Rattle.rules.specs.Masks.{field};
+ghost use mathlib.Core.Bool.{true, false, cond, not};
+ghost use Prim.Native.Nat.{suc, max, _+_, _*_, _≤_, _<_};
+ghost use lib.Bits.{bitOr};
+ghost use lib.Dec.{eqb};
+ghost use lib.ListN.{getD, length, set};
+ghost use Rattle.rules.specs.Codes.{operandsOf, partsOf};
+ghost use Rattle.rules.specs.Typing.{fitMasks};
+ghost use Rattle.rules.specs.Reading.{operandFits, readOperands, fieldsOf, tablesOf};
+ghost use Rattle.typing.specs.Walking.{Moved, Masked, Sound, Asked, Left, Told, wired, tallyOf, walked, noteUse};
+ghost use Rattle.typing.specs.Walking.{openOf, predOf, inMain, placeIn, partsIn, testsIn, writesIn, shut};
+ghost use Rattle.typing.specs.Walking.{Small, Apart, Leafed, Noted, rightStates, Joins, Bare, faultAfter};
+ghost use Rattle.typing.specs.Walking.{LeafAsked, leafRead, leafAt, WrongWithin, refusedAt, FieldKnown, TableKnown, MasksKnown, BesideAsked, BodyAsked, Body};
+ghost use Rattle.rules.specs.Masks.{inFields, field};
 ghost use Rattle.rules.specs.Parts.{Id};
-ghost use Rattle.rules.specs.Reading.{built};
+ghost use Rattle.rules.specs.Reading.{built, readsAt, writesAt, verdict};
 ghost use Rattle.rules.specs.Promises.{AcceptAnswer};
-ghost use Rattle.book.specs.Counting.{uses};
-ghost use Rattle.typing.specs.Judging.{low, masksOf, marked, firstOf, rightSides, BothFound, BesideFound};
-ghost use Rattle.typing.specs.Judging.{Found, judgeEntry, fitMasked, fitEntry};
+ghost use Rattle.typing.specs.Walking.{firstOf};
+ghost use Rattle.typing.specs.Summing.{Fronted, Cleared, So, Turned, Ends, Ended};
 
-// Fields tested, fields that may be written, and the place after the part.
-pub struct Masks {
-    pub tests: u8,
-    pub writes: u8,
-    pub next: usize,
+// On with the state, or off at the place of the first byte that cannot stand there.
+pub enum Walked {
+    On(u64),
+    Off(usize),
 }
 
-// What one walk finds of a part: its masks, and its first concurrent part in book order that is not right.
-// A fault is one more than the place, and 0 where there is none: a number goes through a walk faster than an enum does.
-pub struct Judged {
-    pub masks: Masks,
-    pub fault: usize,
-}
-
-// The mask of one field, of the first eight.
-fn bit(f: u8) -> u8
-    ensures { λ r. ⌜ r ≡ low (field f) ⌝ }
+// A refusal in one number, as it goes up through the walk: a state's place is never 0.
+fn refusal(place: usize) -> u64
+    requires { ⌜ place ≤ 4096 ⌝ }
+    ensures { λ r. ⌜ r ≡ place * 65536 ⌝ }
 {
-    if f < 8 { 1u8 << f } else { 0 }
+    place as u64 * 65536
+}
+
+fn wire(w: Walked) -> u64
+    requires { ⌜ Small w ⌝ }
+    ensures { λ r. ⌜ r ≡ wired w ⌝ }
+{
+    match w {
+        Walked::On(st) => st,
+        Walked::Off(place) => refusal(place),
+    }
+}
+
+// The refusal of a reading, in one number.
+fn refused(r: Reading) -> u64
+    requires { ⌜ WrongWithin r ⌝ }
+    ensures { λ n. ⌜ n ≡ refusedAt r ⌝ }
+{
+    match r {
+        Reading::Next(place) => 0,
+        Reading::Wrong(place) => refusal(place),
+    }
+}
+
+fn unwire(r: u64) -> Walked
+    ensures { λ w. ⌜ Apart r w ⌝ }
+{
+    if r % 65536 == 0 {
+        Walked::Off((r / 65536) as usize)
+    } else {
+        Walked::On(r)
+    }
+}
+
+// Past a code and its operands: one part more.
+fn past(st: u64, code: u8) -> u64
+    requires { ⌜ (placeIn st ≤ 4096) × (partsIn st ≤ 4096) ⌝ }
+    ensures { λ r. ⌜ Moved st (operandsOf code) r ⌝ }
+{
+    let shape = rules::shape_of(code);
+    st + 65537 + shape.operands as u64
+}
+
+// With further fields tested and written.
+fn with_masks(st: u64, tests: u64, writes: u64) -> u64
+    requires { ⌜ (tests < 65536) × (writes < 65536) ⌝ }
+    ensures { λ r. ⌜ Masked st tests writes r ⌝ }
+{
+    let masks = st / 4294967296;
+    let t = masks % 65536 | tests;
+    let m = masks / 65536 | writes;
+    st % 4294967296 + 4294967296 * (t + 65536 * m)
+}
+
+// Field and value of a test or a set.
+fn field_operand(s: &[u8], at: usize) -> Reading
+    requires { ⌜ (at < length (now s)) × (length (now s) ≤ 4096) ⌝ }
+    ensures { λ r. ⌜ (r ≡ readOperands (now (s .entry)) (operandFits (fieldsOf (now (s .entry))) (tablesOf (now (s .entry))) 2) 3 0 (at + 1))
+        × FieldKnown (now (s .entry)) at r ⌝ }
+{
+    let left = s.len() - at;
+    if left < 4 {
+        if left < 2 {
+            return Reading::Wrong(s.len());
+        }
+        if s[at + 1] < s[0] {
+            return Reading::Wrong(s.len());
+        }
+        return Reading::Wrong(at + 1);
+    }
+    if s[at + 1] < s[0] {
+        return Reading::Next(at + 4);
+    }
+    Reading::Wrong(at + 1)
+}
+
+// The number of a table.
+fn table_operand(s: &[u8], at: usize) -> Reading
+    requires { ⌜ (at < length (now s)) × (length (now s) ≤ 4096) × (2 ≤ length (now s)) ⌝ }
+    ensures { λ r. ⌜ (r ≡ readOperands (now (s .entry)) (operandFits (fieldsOf (now (s .entry))) (tablesOf (now (s .entry))) 8) 1 0 (at + 1))
+        × TableKnown (now (s .entry)) at r ⌝ }
+{
+    if s.len() - at < 2 {
+        return Reading::Wrong(s.len());
+    }
+    let x = s[at + 1];
+    if x == 0 {
+        return Reading::Wrong(at + 1);
+    }
+    if x <= s[1] {
+        return Reading::Next(at + 2);
+    }
+    Reading::Wrong(at + 1)
+}
+
+// Is no bit of a mask at k or above?
+fn small_mask(b: u8, k: u8) -> bool
+    requires { ⌜ k ≤ 8 ⌝ }
+    ensures { λ r. ⌜ r ≡ inFields k b ⌝ }
+{
+    (b as u16) < 1u16 << k
+}
+
+// The two masks of a concurrent part.
+fn mask_operands(s: &[u8], at: usize) -> Reading
+    requires { ⌜ (at < length (now s)) × (length (now s) ≤ 4096) × (fieldsOf (now s) ≤ 8) ⌝ }
+    ensures { λ r. ⌜ (r ≡ readOperands (now (s .entry)) (operandFits (fieldsOf (now (s .entry))) (tablesOf (now (s .entry))) 7) 2 0 (at + 1))
+        × MasksKnown (now (s .entry)) at r ⌝ }
+{
+    let left = s.len() - at;
+    if left < 2 {
+        return Reading::Wrong(s.len());
+    }
+    if !small_mask(s[at + 1], s[0]) {
+        return Reading::Wrong(at + 1);
+    }
+    if left < 3 {
+        return Reading::Wrong(s.len());
+    }
+    if !small_mask(s[at + 2], s[0]) {
+        return Reading::Wrong(at + 2);
+    }
+    Reading::Next(at + 3)
+}
+
+fn larger(a: u16, b: u16) -> u16
+    ensures { λ r. ⌜ r ≡ max a b ⌝ }
+{
+    if a < b { b } else { a }
+}
+
+// The mask of one field.
+fn field_bit(f: u8) -> u64
+    requires { ⌜ f < 8 ⌝ }
+    ensures { λ r. ⌜ (r ≡ field f) × (r < 65536) ⌝ }
+{
+    1u64 << f
+}
+
+// A test of a field.
+fn test_part(s: &[u8], st: u64) -> u64
+    requires { ⌜ Sound (now s) × (placeIn st < length (now s)) × (partsIn st ≤ placeIn st) ⌝ }
+    ensures { λ r. ⌜ Leafed (now (s .entry)) st (built (now (s .entry)) (shut (now (s .entry))) (placeIn st) 2 Id Id)
+        (readOperands (now (s .entry)) (operandFits (fieldsOf (now (s .entry))) (tablesOf (now (s .entry))) 2) 3 0 (placeIn st + 1)) r ⌝ }
+{
+    let at = (st % 65536) as usize;
+    let ops = field_operand(s, at);
+    let Reading::Next(next) = ops else {
+        return refused(ops);
+    };
+    past(with_masks(st, field_bit(s[at + 1]), 0), 2)
+}
+
+// A set of a field.
+fn set_part(s: &[u8], st: u64) -> u64
+    requires { ⌜ Sound (now s) × (placeIn st < length (now s)) × (partsIn st ≤ placeIn st) ⌝ }
+    ensures { λ r. ⌜ Leafed (now (s .entry)) st (built (now (s .entry)) (shut (now (s .entry))) (placeIn st) 3 Id Id)
+        (readOperands (now (s .entry)) (operandFits (fieldsOf (now (s .entry))) (tablesOf (now (s .entry))) 3) 3 0 (placeIn st + 1)) r ⌝ }
+{
+    let at = (st % 65536) as usize;
+    let ops = field_operand(s, at);
+    let Reading::Next(next) = ops else {
+        return refused(ops);
+    };
+    past(with_masks(st, 0, field_bit(s[at + 1])), 3)
+}
+
+// A use of table x below so many concurrent parts.
+fn note_use(uses: &mut [u16; 32], x: usize, level: u16)
+    requires { ⌜ (length (now uses) ≡ 32) × (x < 16) × (getD (now uses) x 0 < 65535) ⌝ }
+    ensures { λ r. ⌜ now (uses .exit) ≡ noteUse x level (now (uses .entry)) ⌝ }
+{
+    uses[x] = uses[x] + 1;
+    uses[16 + x] = larger(uses[16 + x], level);
+}
+
+// How many concurrent parts stand above.
+fn level_of(way: usize) -> u16
+    requires { ⌜ openOf way ≤ 32 ⌝ }
+    ensures { λ r. ⌜ (r ≡ openOf way) × (r ≤ 32) ⌝ }
+{
+    (way / 4) as u16
 }
 
 // A use of table x goes by the masks that its entry declares.
-fn use_masks(s: &[u8], main: bool, x: u8, next: usize) -> Masks
-    ensures { λ r. ⌜ r ≡ masksOf (uses (now (s .entry)) main x) next ⌝ }
+fn use_masks(s: &[u8], st: u64, x: usize) -> u64
+    requires { ⌜ Sound (now s) × (x ≤ tablesOf (now s)) ⌝ }
+    ensures { λ r. ⌜ Masked st (bitOr (readsAt (now (s .entry)) x) (writesAt (now (s .entry)) x)) (writesAt (now (s .entry)) x) r ⌝ }
 {
-    if main {
-        let w = book::writes_of(s, x);
-        Masks {
-            tests: book::reads_of(s, x) | w,
-            writes: w,
-            next,
-        }
-    } else {
-        Masks {
-            tests: 0,
-            writes: 0,
-            next,
-        }
-    }
+    let r = s[4 + 4 * x];
+    let w = s[5 + 4 * x];
+    with_masks(st, (r | w) as u64, w as u64)
 }
 
-// The masks of a part with no part below it.
-fn leaf_masks(s: &[u8], main: bool, at: usize, next: usize) -> Masks
-    requires { ⌜ (at < length (now s)) × (partsOf (getD (now s) at 0) ≡ 0) ⌝ }
-    ensures { λ r. ⌜ r ≡ masksOf (built (now (s .entry)) (uses (now (s .entry)) main) at (getD (now (s .entry)) at 0) Id Id) next ⌝ }
+// A use of a table.
+fn use_part(s: &[u8], uses: &mut [u16; 32], st: u64, way: usize) -> u64
+    requires { ⌜ LeafAsked (now s) (now uses) st way ⌝ }
+    ensures { λ r. ⌜ Leafed (now (s .entry)) st (built (now (s .entry)) (shut (now (s .entry))) (placeIn st) 8 Id Id)
+        (readOperands (now (s .entry)) (operandFits (fieldsOf (now (s .entry))) (tablesOf (now (s .entry))) 8) 1 0 (placeIn st + 1)) r
+        × Noted (openOf way) (built (now (s .entry)) (shut (now (s .entry))) (placeIn st) 8 Id Id)
+        (readOperands (now (s .entry)) (operandFits (fieldsOf (now (s .entry))) (tablesOf (now (s .entry))) 8) 1 0 (placeIn st + 1))
+        (now (uses .entry)) (now (uses .exit)) ⌝ }
 {
+    let at = (st % 65536) as usize;
+    let ops = table_operand(s, at);
+    let Reading::Next(next) = ops else {
+        return refused(ops);
+    };
+    let x = s[at + 1] as usize;
+    note_use(uses, x, level_of(way));
+    past(use_masks(s, st, x), 8)
+}
+
+// A part with no parts below it.
+fn leaf(s: &[u8], uses: &mut [u16; 32], st: u64, way: usize) -> u64
+    requires { ⌜ LeafAsked (now s) (now uses) st way ⌝ }
+    ensures { λ r. ⌜ Leafed (now (s .entry)) st (leafAt (now (s .entry)) (placeIn st)) (leafRead (now (s .entry)) way (placeIn st)) r
+        × Noted (openOf way) (leafAt (now (s .entry)) (placeIn st)) (leafRead (now (s .entry)) way (placeIn st))
+        (now (uses .entry)) (now (uses .exit)) ⌝ }
+{
+    let at = (st % 65536) as usize;
     let code = s[at];
-    let a = book::byte_at(s, at + 1);
     match code {
-        2 => Masks {
-            tests: bit(a),
-            writes: 0,
-            next,
-        },
-        3 => Masks {
-            tests: 0,
-            writes: bit(a),
-            next,
-        },
-        8 => use_masks(s, main, a, next),
-        _ => Masks {
-            tests: 0,
-            writes: 0,
-            next,
-        },
+        0 | 1 => past(st, 0),
+        2 => test_part(s, st),
+        3 => {
+            if way / 2 % 2 == 1 {
+                return refusal(at);
+            }
+            set_part(s, st)
+        }
+        8 => {
+            if way % 4 == 0 {
+                return use_part(s, uses, st, way);
+            }
+            refusal(at)
+        }
+        _ => refusal(at),
     }
 }
 
-// The rule of a concurrent part with masks wp and wq, over the parts p and q.
-fn right_masks(wp: u8, wq: u8, p: Masks, q: Masks) -> bool
-    ensures { λ r. ⌜ r ≡ rightSides wp wq p q ⌝ }
+// Do parts stand below a code?
+fn has_parts(code: u8) -> bool
+    ensures { λ r. ⌜ r ≡ not (eqb (partsOf code) 0) ⌝ }
 {
-    if p.writes | wp != wp {
+    match code {
+        4 | 5 | 6 | 7 => true,
+        _ => false,
+    }
+}
+
+// Under a negation only a predicate may stand.
+fn under_not(way: usize) -> usize
+    requires { ⌜ openOf way ≤ 32 ⌝ }
+    ensures { λ r. ⌜ (openOf r ≡ openOf way) × (predOf r ≡ true) × (inMain r ≡ inMain way) ⌝ }
+{
+    if way / 2 % 2 == 1 { way } else { way + 2 }
+}
+
+// The rule of a concurrent part with masks wp and wq, over the states after its sides.
+fn right_states(wp: u8, wq: u8, p: u64, q: u64) -> bool
+    ensures { λ r. ⌜ r ≡ rightStates wp wq p q ⌝ }
+{
+    let v = wp as u64;
+    let w = wq as u64;
+    let mp = p / 281474976710656;
+    let mq = q / 281474976710656;
+    if mp | v != v {
         return false;
     }
-    if q.writes | wq != wq {
+    if mq | w != w {
         return false;
     }
-    if wp & wq != 0 {
+    if v & w != 0 {
         return false;
     }
-    if p.tests & wq != 0 {
+    if p / 4294967296 % 65536 & w != 0 {
         return false;
     }
-    q.tests & wp == 0
+    q / 4294967296 % 65536 & v == 0
 }
 
-// The first fault of two, one after the other.
-fn first_of(a: usize, b: usize) -> usize
-    ensures { λ r. ⌜ r ≡ firstOf a b ⌝ }
+// A state without its masks.
+fn bare(st: u64) -> u64
+    ensures { λ r. ⌜ Bare st r ⌝ }
 {
-    if a == 0 { b } else { a }
+    st % 4294967296
 }
 
-// A fault, unless what was asked is right; then those below it.
-fn unless_right(right: bool, below: usize, own: usize) -> usize
-    ensures { λ r. ⌜ r ≡ cond right below own ⌝ }
+// Both sides' states joined to the state before them.
+fn joined(st: u64, l: u64, r: u64, wp: u8, wq: u8) -> u64
+    ensures { λ z. ⌜ Joins st l r wp wq z ⌝ }
 {
-    if right { below } else { own }
+    let t = st / 4294967296 % 65536 | (l / 4294967296 % 65536 | r / 4294967296 % 65536);
+    let m = st / 281474976710656 | (wp | wq) as u64;
+    r % 4294967296 + 4294967296 * (t + 65536 * m)
 }
 
-// A sum or a sequence: the unions of the masks.
-fn both(left: Judged, right: Judged) -> Judged
-    ensures { λ r. ⌜ BothFound left right r ⌝ }
+// One concurrent part more on the way down.
+fn mark_level(marks: &mut [u16; 2], level: u16)
+    requires { ⌜ (length (now marks) ≡ 2) × (level ≤ 32) ⌝ }
+    ensures { λ r. ⌜ now (marks .exit) ≡ set (now (marks .entry)) 1 (max (getD (now (marks .entry)) 1 0) (level + 1)) ⌝ }
 {
-    let p = left.masks;
-    let q = right.masks;
-    Judged {
-        masks: Masks {
-            tests: p.tests | q.tests,
-            writes: p.writes | q.writes,
-            next: q.next,
-        },
-        fault: first_of(left.fault, right.fault),
+    marks[1] = larger(marks[1], level + 1);
+}
+
+// The first fault, after both sides of a concurrent part at a place.
+fn mark_fault(marks: &mut [u16; 2], old: u16, right: bool, at: usize)
+    requires { ⌜ (length (now marks) ≡ 2) × (at ≤ 4096) ⌝ }
+    ensures { λ r. ⌜ now (marks .exit) ≡ set (now (marks .entry)) 0 (faultAfter old right at (getD (now (marks .entry)) 0 0)) ⌝ }
+{
+    if old == 0 {
+        if right {} else {
+            marks[0] = (at + 1) as u16;
+        }
     }
 }
 
-// A concurrent part, by its own fault if it is not right. It writes by its own masks, also where it is not.
-fn beside(own: usize, wp: u8, wq: u8, left: Judged, right: Judged) -> Judged
-    ensures { λ r. ⌜ BesideFound own wp wq left right r ⌝ }
+// One side of a sum or a sequence: a part with no parts below it is read here, any other is walked.
+fn side(
+    s: &[u8],
+    marks: &mut [u16; 2],
+    uses: &mut [u16; 32],
+    st: u64,
+    depth: usize,
+    way: usize,
+) -> Walked
+    requires { ⌜ Asked (now s) (now marks) (now uses) st depth way ⌝ }
+    ensures { λ w. ⌜ Told (now (s .entry)) (openOf way) (walked (now (s .entry)) way depth (tallyOf st (now (marks .entry)) (now (uses .entry))))
+        w (now (marks .exit)) (now (uses .exit)) ⌝ }
 {
-    let p = left.masks;
-    let q = right.masks;
-    let below = first_of(left.fault, right.fault);
-    Judged {
-        masks: Masks {
-            tests: p.tests | q.tests,
-            writes: wp | wq,
-            next: q.next,
-        },
-        fault: unless_right(right_masks(wp, wq, p, q), below, own),
-    }
-}
-
-// Where no part stands, nothing is tested, written or wrong.
-fn nothing(at: usize) -> Judged
-    ensures { λ r. ⌜ (r .masks ≡ record { tests = 0; writes = 0; next = at }) × (r .fault ≡ 0) ⌝ }
-{
-    Judged {
-        masks: Masks {
-            tests: 0,
-            writes: 0,
-            next: at,
-        },
-        fault: 0,
-    }
-}
-
-// T and M of the part at a place, at most depth deep, the place after it, and its first fault: each part is walked once.
-fn judge_part(s: &[u8], main: bool, at: usize, depth: usize) -> Judged
-    ensures { λ r. ⌜ Found (now (s .entry)) (uses (now (s .entry)) main) depth at r ⌝ }
-{
-    if depth == 0 {
-        return nothing(at);
-    }
+    let at = (st % 65536) as usize;
     if s.len() <= at {
-        return nothing(at);
+        return Walked::Off(s.len());
     }
-    let code = s[at];
-    let shape = rules::shape_of(code);
-    let parts = shape.parts;
-    let from = at + 1 + shape.operands;
-    if parts == 0 {
-        return Judged {
-            masks: leaf_masks(s, main, at, from),
-            fault: 0,
-        };
+    if depth == 0 {
+        return Walked::Off(at);
     }
-    let left = judge_part(s, main, from, depth - 1);
-    if parts == 1 {
-        return left;
+    if has_parts(s[at]) {
+        return unwire(walk(s, marks, uses, st, depth, way));
     }
-    let middle = left.masks.next;
-    let right = judge_part(s, main, middle, depth - 1);
-    if code == 7 {
-        return beside(
-            at + 1,
-            book::byte_at(s, at + 1),
-            book::byte_at(s, at + 2),
-            left,
-            right,
-        );
+    unwire(leaf(s, uses, st, way))
+}
+
+// A concurrent part: its sides each begin with no masks, below one concurrent part more.
+fn beside_part(
+    s: &[u8],
+    marks: &mut [u16; 2],
+    uses: &mut [u16; 32],
+    st: u64,
+    depth: usize,
+    way: usize,
+) -> u64
+    requires { ⌜ BesideAsked (now s) (now marks) (now uses) st depth way ⌝ }
+    ensures { λ r. ⌜ Left (now (s .entry)) (openOf way) (walked (now (s .entry)) way (suc depth) (tallyOf st (now (marks .entry)) (now (uses .entry))))
+        r (now (marks .exit)) (now (uses .exit)) ⌝ }
+{
+    let at = (st % 65536) as usize;
+    let ops = mask_operands(s, at);
+    let Reading::Next(from) = ops else {
+        return refused(ops);
+    };
+    let before = marks[0];
+    mark_level(marks, level_of(way));
+    let left = unwire(walk(s, marks, uses, past(bare(st), 7), depth, way + 4));
+    let Walked::On(l) = left else {
+        return wire(left);
+    };
+    let right = unwire(walk(s, marks, uses, bare(l), depth, way + 4));
+    let Walked::On(r) = right else {
+        return wire(right);
+    };
+    let wp = s[at + 1];
+    let wq = s[at + 2];
+    mark_fault(marks, before, right_states(wp, wq, l, r), at);
+    joined(st, l, r, wp, wq)
+}
+
+// The part at the state's place and all below it, at most depth deep. The last part below a code is walked in the loop.
+fn walk(
+    s: &[u8],
+    marks: &mut [u16; 2],
+    uses: &mut [u16; 32],
+    from: u64,
+    depth: usize,
+    way: usize,
+) -> u64
+    requires { ⌜ Asked (now s) (now marks) (now uses) from depth way ⌝ }
+    ensures { λ r. ⌜ Left (now (s .entry)) (openOf way) (walked (now (s .entry)) way depth (tallyOf from (now (marks .entry)) (now (uses .entry))))
+        r (now (marks .exit)) (now (uses .exit)) ⌝ }
+{
+    let mut st = from;
+    let mut d = depth;
+    let mut w = way;
+    loop {
+        let at = (st % 65536) as usize;
+        if s.len() <= at {
+            return refusal(s.len());
+        }
+        if d == 0 {
+            return refusal(at);
+        }
+        d -= 1;
+        let code = s[at];
+        match code {
+            4 => {
+                st = past(st, 4);
+                w = under_not(w);
+            }
+            5 | 6 => {
+                let left = side(s, marks, uses, past(st, 5), d, w);
+                let Walked::On(l) = left else {
+                    return wire(left);
+                };
+                st = l;
+            }
+            7 => {
+                if w / 2 % 2 == 1 {
+                    return refusal(at);
+                }
+                return beside_part(s, marks, uses, st, d, w);
+            }
+            _ => {
+                return leaf(s, uses, st, w);
+            }
+        }
     }
-    both(left, right)
+}
+
+// A body that starts at a place and ends where s ends: what stands after it, or its first byte that cannot stand there.
+pub fn whole(
+    s: &[u8],
+    marks: &mut [u16; 2],
+    uses: &mut [u16; 32],
+    start: usize,
+    way: usize,
+) -> Walked
+    requires { ⌜ BodyAsked (now s) (now marks) (now uses) start way ⌝ }
+    ensures { λ w. ⌜ Body (now (s .entry)) way start (tallyOf start (now (marks .entry)) (now (uses .entry))) w (now (marks .exit)) (now (uses .exit)) ⌝ }
+{
+    let part = unwire(walk(s, marks, uses, start as u64, 32, way));
+    let Walked::On(st) = part else {
+        return part;
+    };
+    let at = (st % 65536) as usize;
+    if at == s.len() {
+        Walked::On(st)
+    } else {
+        Walked::Off(at)
+    }
+}
+
+// What stands after some bodies: the place of the next, n and D so far, and the first body that does not fit, one more than its
+// place, 0 if none.
+pub struct Sums {
+    pub at: usize,
+    pub parts: usize,
+    pub deep: usize,
+    pub unfit: usize,
+}
+
+// The sums of all bodies, or the place of the first byte that cannot stand there.
+pub enum Summed {
+    All(Sums),
+    Stop(usize),
 }
 
 // A body fits (R, W) if T lies in R and W together and M lies in W.
-fn fit_masks(r: u8, w: u8, p: Masks) -> bool
-    ensures { λ b. ⌜ b ≡ fitMasked r w p ⌝ }
+fn fit_state(r: u8, w: u8, st: u64) -> bool
+    ensures { λ b. ⌜ b ≡ fitMasks r w (testsIn st) (writesIn st) ⌝ }
 {
-    let all = r | w;
-    if p.tests | all != all {
+    let own = w as u64;
+    let all = r as u64 | own;
+    if st / 4294967296 % 65536 | all != all {
         return false;
     }
-    p.writes | w == w
+    st / 281474976710656 | own == own
 }
 
-// What one body has against it: a concurrent part that is not right, and that the body does not fit.
-pub struct Faults {
-    pub parts: usize,
-    pub body: usize,
-}
-
-// Both faults of the body of entry x; a table that is not populated has none.
-fn entry_faults(book: &[u8], x: u8) -> Faults
-    ensures { λ r. ⌜ (r .parts ≡ marked (judgeEntry (now (book .entry)) x)) × (r .body ≡ marked (fitEntry (now (book .entry)) x)) ⌝ }
+// The first body that does not fit, after one more that starts at a place.
+fn first_unfit(unfit: usize, fits: bool, at: usize) -> usize
+    requires { ⌜ at ≤ 4096 ⌝ }
+    ensures { λ r. ⌜ r ≡ firstOf unfit (cond fits 0 (suc at)) ⌝ }
 {
-    if book::length_of(book, x) == 0 {
-        return Faults { parts: 0, body: 0 };
+    if fits {
+        return unfit;
     }
-    let start = book::body_start(book, x);
-    let found = judge_part(book, x == 0, start, 32);
-    let masks = found.masks;
-    let fits = fit_masks(book::reads_of(book, x), book::writes_of(book, x), masks);
-    Faults {
-        parts: found.fault,
-        body: unless_right(fits, 0, start + 1),
+    if unfit == 0 { at + 1 } else { unfit }
+}
+
+// n with the parts of a table's body as often as the table is used.
+fn more_parts(parts: usize, used: u16, st: u64) -> usize
+    requires { ⌜ parts ≤ 68719476736 ⌝ }
+    ensures { λ r. ⌜ (r ≡ parts + used * partsIn st) × (r ≤ parts + 4294967296) ⌝ }
+{
+    parts + used as usize * (st / 65536 % 65536) as usize
+}
+
+// D with a table's body below its deepest use, if there is one.
+fn deeper(deep: usize, used: u16, level: u16, below: u16) -> usize
+    ensures { λ r. ⌜ r ≡ max deep (cond (eqb used 0) 0 (level + below)) ⌝ }
+{
+    let all = level as usize + below as usize;
+    if used == 0 {
+        return deep;
+    }
+    if deep < all { all } else { deep }
+}
+
+// A mark as it is reported.
+fn wide(x: u16) -> usize
+    ensures { λ r. ⌜ r ≡ x ⌝ }
+{
+    x as usize
+}
+
+// The body of the main policy.
+fn main_body(book: &[u8], marks: &mut [u16; 2], uses: &mut [u16; 32]) -> Summed
+    requires { ⌜ Fronted (now book) × Cleared (now marks) (now uses) ⌝ }
+    ensures { λ r. ⌜ Turned (now (book .entry)) 0 r (now (marks .exit)) (now (uses .exit)) ⌝ }
+{
+    let at = book::body_start(book, 0);
+    let end = at + book::length_of(book, 0);
+    let body = whole(&book[..end], marks, uses, at, 0);
+    match body {
+        Walked::On(st) => {
+            let fits = fit_state(book::reads_of(book, 0), book::writes_of(book, 0), st);
+            Summed::All(Sums {
+                at: end,
+                parts: (st / 65536 % 65536) as usize,
+                deep: wide(marks[1]),
+                unfit: first_unfit(0, fits, at),
+            })
+        }
+        Walked::Off(place) => Summed::Stop(place),
     }
 }
 
-// The verdict on a book: the numbers 1 to 7 in their order, or its sizes. The first wrong concurrent part ends the loop;
-// the first body that does not fit is reported only if no body has such a part.
+// The body of table y, if it is populated.
+fn table_body(book: &[u8], marks: &mut [u16; 2], uses: &mut [u16; 32], y: u8, z: Sums) -> Summed
+    requires { ⌜ Fronted (now book) × So (now book) y z (now marks) (now uses) × (1 ≤ y) × (y ≤ tablesOf (now book)) ⌝ }
+    ensures { λ r. ⌜ Turned (now (book .entry)) y r (now (marks .exit)) (now (uses .exit)) ⌝ }
+{
+    let size = book::length_of(book, y);
+    if size == 0 {
+        return Summed::All(z);
+    }
+    let at = z.at;
+    let end = at + size;
+    marks[1] = 0;
+    let body = whole(&book[..end], marks, uses, at, 1);
+    match body {
+        Walked::On(st) => {
+            let fits = fit_state(book::reads_of(book, y), book::writes_of(book, y), st);
+            let x = y as usize;
+            let used = uses[x];
+            Summed::All(Sums {
+                at: end,
+                parts: more_parts(z.parts, used, st),
+                deep: deeper(z.deep, used, uses[16 + x], marks[1]),
+                unfit: first_unfit(z.unfit, fits, at),
+            })
+        }
+        Walked::Off(place) => Summed::Stop(place),
+    }
+}
+
+// All bodies, in order.
+fn all_bodies(book: &[u8], marks: &mut [u16; 2], uses: &mut [u16; 32]) -> Summed
+    requires { ⌜ Fronted (now book) × Cleared (now marks) (now uses) ⌝ }
+    ensures { λ r. ⌜ Ended (now (book .entry)) r (now (marks .exit)) ⌝ }
+{
+    let m = book::byte_at(book, 1);
+    let main = main_body(book, marks, uses);
+    let Summed::All(first) = main else {
+        return main;
+    };
+    let mut z = first;
+    let mut y: u8 = 1;
+    while y <= m {
+        let body = table_body(book, marks, uses, y, z);
+        let Summed::All(next) = body else {
+            return body;
+        };
+        z = next;
+        y += 1;
+    }
+    Summed::All(z)
+}
+
+// The numbers 6 and 7 of a book whose bodies are read.
+fn sentence(book: &[u8], z: Sums, fault: usize) -> Verdict
+    requires { ⌜ Fronted (now book) × Ends (now book) z fault ⌝ }
+    ensures { λ r. ⌜ r ≡ verdict (now (book .entry)) ⌝ }
+{
+    if 1023 < z.parts {
+        return Verdict::Refused(rules::no_place(Reason::Limits));
+    }
+    if 4 < z.deep {
+        return Verdict::Refused(rules::no_place(Reason::Limits));
+    }
+    if fault != 0 {
+        return Verdict::Refused(Refusal {
+            reason: Reason::Typing,
+            place: fault - 1,
+        });
+    }
+    if z.unfit != 0 {
+        return Verdict::Refused(Refusal {
+            reason: Reason::Typing,
+            place: z.unfit - 1,
+        });
+    }
+    Verdict::Accepted(Sizes {
+        fields: book::byte_at(book, 0) as usize,
+        tables: book::byte_at(book, 1) as usize,
+        parts: z.parts,
+        deep: z.deep,
+    })
+}
+
+// The numbers 5 to 7 of a book whose contents are right.
+fn bodies(book: &[u8]) -> Verdict
+    requires { ⌜ Fronted (now book) ⌝ }
+    ensures { λ r. ⌜ r ≡ verdict (now (book .entry)) ⌝ }
+{
+    let mut marks = [0u16; 2];
+    let mut uses = [0u16; 32];
+    let all = all_bodies(book, &mut marks, &mut uses);
+    match all {
+        Summed::All(z) => sentence(book, z, wide(marks[0])),
+        Summed::Stop(place) => Verdict::Refused(Refusal {
+            reason: Reason::Form,
+            place,
+        }),
+    }
+}
+
+// The verdict on a book: the numbers 1 to 7 in their order, or its sizes.
 pub fn accept(book: &[u8]) -> Verdict
     ensures { λ r. ⌜ AcceptAnswer (now (book .entry)) r ⌝ }
 {
-    let form = book::structure(book);
-    let Verdict::Accepted(sizes) = form else {
-        return form;
-    };
-    let m = book::byte_at(book, 1) as usize;
-    let mut unfit: usize = 0;
-    let mut x: usize = 0;
-    while x <= m {
-        let faults = entry_faults(book, x as u8);
-        let parts = faults.parts;
-        if parts != 0 {
-            return Verdict::Refused(Refusal::Typing(parts - 1));
-        }
-        unfit = first_of(unfit, faults.body);
-        x += 1;
+    if !book::length_right(book.len()) {
+        return Verdict::Refused(rules::no_place(Reason::BookLength));
     }
-    if unfit != 0 {
-        return Verdict::Refused(Refusal::Typing(unfit - 1));
+    let m = book::byte_at(book, 1);
+    if !book::counts_right(book::byte_at(book, 0), m) {
+        return Verdict::Refused(rules::no_place(Reason::Counts));
     }
-    form
+    if book::body_start(book, m + 1) != book.len() {
+        return Verdict::Refused(rules::no_place(Reason::Lengths));
+    }
+    if !book::masks_right(book) {
+        return Verdict::Refused(rules::no_place(Reason::EntryMasks));
+    }
+    bodies(book)
 }

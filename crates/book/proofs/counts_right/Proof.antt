@@ -1,5 +1,5 @@
 -- `counts_right` meets its contract. Assumes nothing.
-use Rattle.book.proofs.FormLaws.{no-field, few-fields, many-fields}
+use Rattle.book.proofs.LayoutLaws.{no-field, few-fields, many-fields}
 use Rattle.book.proofs.counts_right.Statement.{statement}
 use Rattle.book.proofs.counts_right.Tie as tie
 

@@ -1,5 +1,5 @@
 -- `entry_masks` meets its contract. Assumes nothing.
-use Rattle.book.proofs.FormLaws.{masks-meet, masks-second, masks-first}
+use Rattle.book.proofs.LayoutLaws.{masks-meet, masks-second, masks-first}
 use borrow.Author.Needs.{needs}
 use Rattle.book.proofs.entry_masks.Statement.{statement}
 use Rattle.book.proofs.entry_masks.Tie as tie

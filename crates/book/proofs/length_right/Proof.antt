@@ -1,5 +1,5 @@
 -- `length_right` meets its contract. Assumes nothing.
-use Rattle.book.proofs.FormLaws.{too-short, long-enough}
+use Rattle.book.proofs.LayoutLaws.{too-short, long-enough}
 use Rattle.book.proofs.length_right.Statement.{statement}
 use Rattle.book.proofs.length_right.Tie as tie
 

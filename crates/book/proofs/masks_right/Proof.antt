@@ -3,7 +3,7 @@ use Prim.Native.Nat.{suc, _-_, _≤_}
 use native.Mathlib.Omega.{arith}
 use mathlib.Core.Path.{_≡_, sym, _∙_}
 use Rattle.rules.specs.Reading.{fieldsOf, tablesOf, masksRight}
-use Rattle.book.proofs.FormLaws.{masks-start, masks-step, masks-stop, masks-end}
+use Rattle.book.proofs.LayoutLaws.{masks-start, masks-step, masks-stop, masks-end}
 use borrow.Author.Needs.{needs}
 use Rattle.book.proofs.masks_right.Statement.{statement}
 use Rattle.book.proofs.masks_right.Tie as tie
