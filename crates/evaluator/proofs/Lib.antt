@@ -4,3 +4,4 @@ pub mod Down
 pub mod Opening
 pub mod Answering
 pub mod Answer
+pub mod Weighing

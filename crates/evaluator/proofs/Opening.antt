@@ -15,7 +15,7 @@ use Rattle.rules.specs.Books.{useOf, noUse, mostDepth, Scope, Fine, Bytes}
 use Rattle.rules.specs.Reading.{skip, after, built, partAt, bodyAt, useAt, lengthAt, readsAt, writesAt, bodyStart, mainOf}
 use Rattle.rules.proofs.ReadingLaws.{parts-small}
 use Rattle.rules.proofs.FineLaws.{OfUses}
-use Rattle.typing.proofs.Inside.{main-placed}
+use Rattle.rules.proofs.Inside.{main-placed}
 use Rattle.evaluator.specs.Work.{Sees, IsAccepted, Populated}
 use Rattle.evaluator.specs.declared.Looked.{Looked}
 use Rattle.evaluator.proofs.WorkLaws.{no}

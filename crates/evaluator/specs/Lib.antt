@@ -1,2 +1,3 @@
 -- What the contracts of the evaluator say.
 pub mod Work
+pub mod Passing

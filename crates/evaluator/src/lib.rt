@@ -2,7 +2,7 @@
 // evaluate_part and the functions of the codes call each other; all that they combine is done by functions outside that cycle.
 use rules::Evaluated;
 use rules::Outcome;
-use rules::Refusal;
+use rules::Reason;
 use rules::Sizes;
 use rules::Verdict;
 ghost use mathlib.Core.Path.{_≡_};
@@ -20,6 +20,7 @@ ghost use Rattle.rules.specs.Promises.{EvaluateAnswer};
 ghost use Rattle.rows.specs.Chunks.{chunks, rowAt, Packed, Held, Fits};
 ghost use Rattle.evaluator.specs.Work.{namedIn, partIn, testAt, setAt, notFrom, sumFrom, seqFrom, besideAt};
 ghost use Rattle.evaluator.specs.Work.{afterTwo, Fair, Fine, Did, Small, Joins, Sees, IsAccepted, Populated, worked};
+ghost use Rattle.evaluator.specs.Passing.{Passable, Passes, Weighs};
 
 // What a part gives on the packets of a lent array: too wide, or how many they are then, its steps and its room, and the place after it.
 struct Worked {
@@ -28,6 +29,20 @@ struct Worked {
     steps: u64,
     room: u64,
     next: usize,
+}
+
+// How far a packet comes in an accepted book: to a table that is not populated (9), to a part that is too wide (10), or through, with the
+// number of packets, N and the room.
+pub struct Weight {
+    pub count: usize,
+    pub steps: u64,
+    pub room: u64,
+}
+
+pub enum Passage {
+    Open,
+    Wide,
+    Through(Weight),
 }
 
 // Whether a part names an unpopulated table, or the place after it.
@@ -503,6 +518,36 @@ fn start_in(packet: &[u16], v: &mut [u16; 128])
     rows::put_row(v, 0, rows::padded(packet));
 }
 
+// One packet through the main policy of an accepted book, in an array of zeros: the packets that it gives are left there.
+fn pass(book: &[u8], packet: &[u16], v: &mut [u16; 128]) -> Passage
+    requires { ⌜ Passable (now book) (now packet) × Held (now v) 0 [] ⌝ }
+    ensures { λ r. ⌜ Passes (now (book .entry)) (now (packet .entry)) r (now (v .exit)) ⌝ }
+{
+    if names_open(book) {
+        return Passage::Open;
+    }
+    let start = book::body_start(book, 0);
+    start_in(packet, v);
+    let w = evaluate_part(book, true, start, 32, v, 1);
+    if w.wide {
+        return Passage::Wide;
+    }
+    Passage::Through(Weight {
+        count: w.count,
+        steps: w.steps,
+        room: w.room,
+    })
+}
+
+// The same for a caller that wants no packets: 9, 10 or the room.
+pub fn weigh(book: &[u8], packet: &[u16]) -> Passage
+    requires { ⌜ Passable (now book) (now packet) ⌝ }
+    ensures { λ r. ⌜ Weighs (now (book .entry)) (now (packet .entry)) r ⌝ }
+{
+    let mut v = [0u16; 128];
+    pass(book, packet, &mut v)
+}
+
 // One packet through an accepted book: 8, 12, 9, 10 in this order, or the packets in the result.
 fn evaluate_accepted(book: &[u8], packet: &[u16], result: &mut [u16], z: Sizes) -> Evaluated
     requires { ⌜ verdict (now book) ≡ Accepted z ⌝ }
@@ -510,30 +555,28 @@ fn evaluate_accepted(book: &[u8], packet: &[u16], result: &mut [u16], z: Sizes) 
 {
     let k = z.fields;
     if packet.len() != k {
-        return Evaluated::NotGiven(Refusal::PacketLength);
+        return Evaluated::NotGiven(rules::no_place(Reason::PacketLength));
     }
     if result.len() < 16 * k {
-        return Evaluated::NotGiven(Refusal::BufferLength);
+        return Evaluated::NotGiven(rules::no_place(Reason::BufferLength));
     }
-    if names_open(book) {
-        return Evaluated::NotGiven(Refusal::Unpopulated);
-    }
-    let start = book::body_start(book, 0);
     let mut v = [0u16; 128];
-    start_in(packet, &mut v);
-    let w = evaluate_part(book, true, start, 32, &mut v, 1);
-    if w.wide {
-        return Evaluated::NotGiven(Refusal::TooWide);
+    let passage = pass(book, packet, &mut v);
+    match passage {
+        Passage::Open => Evaluated::NotGiven(rules::no_place(Reason::Unpopulated)),
+        Passage::Wide => Evaluated::NotGiven(rules::no_place(Reason::TooWide)),
+        Passage::Through(w) => {
+            let count = w.count;
+            let written = rows::emit_rows(&v, count, k, result);
+            Evaluated::Given(Outcome {
+                count,
+                steps: w.steps,
+                parts: z.parts,
+                deep: z.deep,
+                room: w.room,
+            })
+        }
     }
-    let count = w.count;
-    let written = rows::emit_rows(&v, count, k, result);
-    Evaluated::Given(Outcome {
-        count,
-        steps: w.steps,
-        parts: z.parts,
-        deep: z.deep,
-        room: w.room,
-    })
 }
 
 // One packet through a book: why it is turned away, or the count, N, n, D and the room, and the packets in the result.

@@ -22,7 +22,7 @@ fn refusal_face(r: Refusal) -> Face
 {
     Face {
         code: rules::number_of(r) as u64,
-        values: [rules::place_of(r) as u64, 0, 0, 0, 0],
+        values: [r.place as u64, 0, 0, 0, 0],
         count: 1,
     }
 }

@@ -2,33 +2,31 @@
 use Prim.Native.Nat.{ℕ, _*_, _≤_, _<_}
 use native.Mathlib.Omega.{arith}
 use mathlib.Core.Path.{_≡_, refl, sym, ap, _∙_}
-use mathlib.Core.Bool.{Bool, true, false, not}
 use mathlib.Core.List.{List, [], _∷_}
-use lib.Dec.{leb}
-use borrow.Author.Tests.{eq-eqb, le-leb}
 use lib.ListN.{length, replicate}
+use Rattle.rules.specs.declared.Reason.the-variants.{PacketLength, Unpopulated, TooWide, Positions, BufferLength}
 use Rattle.rules.specs.declared.Refusal.{Refusal}
-use Rattle.rules.specs.declared.Refusal.the-variants.{PacketLength, Unpopulated, TooWide, Positions, BufferLength}
 use Rattle.rules.specs.declared.Sizes.{Sizes}
-use Rattle.rules.specs.declared.Outcome.{Outcome}
-use Rattle.rules.specs.declared.Evaluated.the-variants.{Given, NotGiven}
-use Rattle.rules.specs.declared.Verdict.{Verdict}
 use Rattle.rules.specs.declared.Verdict.the-variants.{Accepted, Refused}
 use Rattle.rules.specs.declared.Ran.{Ran}
 use Rattle.rules.specs.declared.Ran.the-variants.{NotRun}
 use Rattle.rules.specs.Packets.{Packets}
-use Rattle.rules.specs.Parts.{namesOpen}
-use Rattle.rules.specs.Reading.{fieldsOf, bodyStart, mainOf, sizesOf, verdict}
-use Rattle.rules.specs.Working.{room, width}
+use Rattle.rules.specs.Checks.{noPlace}
+use Rattle.rules.specs.Reading.{fieldsOf, bodyStart, sizesOf, verdict}
 use Rattle.rules.specs.States.{finish, run, made}
-use Rattle.rules.specs.Answers.{startSet, start, outcome, elseNotGiven, evaluated, elseNotRun, stopped, ran, overwritten}
-use Rattle.rules.specs.Answers.{resultRun, ranResult, areaRun, ranArea}
+use Rattle.rules.specs.Answers.{start, stopped, stopOf, ran, overwritten, resultRun, ranResult, areaRun, ranArea}
 use Rattle.rules.specs.Books.{Bytes}
 use Rattle.rules.specs.Promises.{Granted, Admitted, RunAnswer}
 use Rattle.rules.proofs.AcceptedBooks.{accepted-sizes, accepted-fields}
-use Rattle.rules.proofs.Answering.{given-was, ran-refused, ran-packet, ran-result, ran-area, ran-positions, ran-admitted, run-answer}
+use Rattle.rules.proofs.Answering.{not-run-keeps, ran-refused, ran-packet, ran-result, ran-area, ran-open, ran-wide, ran-positions}
+use Rattle.rules.proofs.Answering.{ran-admitted, run-answer}
+use Rattle.evaluator.specs.declared.Weight.{Weight}
+use Rattle.evaluator.specs.declared.Passage.{Passage}
+use Rattle.evaluator.specs.declared.Passage.the-variants.{Open, Wide, Through}
+use Rattle.evaluator.specs.Passing.{Passable, Weighs}
+use Rattle.evaluator.proofs.Weighing.{weighs-open, weighs-wide, weighs-through}
 use Rattle.machine.specs.Shown.{Stands, Readable, Playable}
-use Rattle.machine.specs.Answered.{GivenRoom, stopOf, wordsOf}
+use Rattle.machine.specs.Answered.{Weighed, wordsOf}
 use Rattle.machine.proofs.Reaching.{start-playable}
 use Rattle.machine.proofs.Admitting.{accepted-reads, accepted-stands, accepted-goes}
 
@@ -44,93 +42,102 @@ module _ (book packet schedule result work : List ℕ) where
   answer = ran book packet schedule (length result) (length work)
 
   -- a refusal leaves both buffers as they are
-  pub turned-away : (why : Refusal) → NotRun why ≡ answer → RunAnswer book packet schedule result work (NotRun why) result work
-  unfolding ranResult ranArea
-  turned-away why e = run-answer e (rw (← e) refl) (rw (← e) refl)
+  turned-away : (why : Refusal) → answer ≡ NotRun why → RunAnswer book packet schedule result work (NotRun why) result work
+  turned-away why e =
+      let k = not-run-keeps book packet schedule result work why e in
+      run-answer (sym e) (sym (k .0)) (sym (k .1))
 
-  pub refused-book : (why : Refusal) (v : Verdict) → v ≡ verdict book → v ≡ Refused why → NotRun why ≡ answer
-  refused-book why v e f = sym (ran-refused book packet schedule (length result) (length work) why (sym e ∙ f))
+  pub refused-book : (why : Refusal) → verdict book ≡ Refused why → RunAnswer book packet schedule result work (NotRun why) result work
+  refused-book why e = turned-away why (ran-refused book packet schedule (length result) (length work) why e)
 
   module _ (z : Sizes) (v : verdict book ≡ Accepted z) where
-    pub refused-packet : (length packet ≡ fieldsOf book → ⊥) → NotRun PacketLength ≡ answer
-    refused-packet n = sym (ran-packet book packet schedule (length result) (length work) z v n)
+    pub refused-packet : (length packet ≡ z .fields → ⊥)
+        → RunAnswer book packet schedule result work (NotRun (noPlace PacketLength)) result work
+    refused-packet n =
+        turned-away _
+        (ran-packet book packet schedule (length result) (length work) z v (λ e. n (e ∙ sym (fields-are book z v .0))))
 
-    module _ (k : length packet ≡ fieldsOf book) where
-      pub refused-result : length result < 16 * fieldsOf book → NotRun BufferLength ≡ answer
-      refused-result l = sym (ran-result book packet schedule (length result) (length work) z v k l)
+    module _ (long : length packet ≡ z .fields) where
+      words : length packet ≡ fieldsOf book
+      words = long ∙ fields-are book z v .0
 
-      pub refused-area : length work < 21760 → NotRun BufferLength ≡ answer
-      refused-area a = sym (ran-area book packet schedule (length result) (length work) z v k a)
+      pub passable : Passable book packet
+      passable = record { accepted = (z, v); words = words }
 
-      module _ (l : 16 * fieldsOf book ≤ length result) (a : 21760 ≤ length work) where
-        -- 9 and 10 as the evaluator gives them
-        pub refused-evaluated : (why : Refusal) → NotGiven why ≡ evaluated book packet 128 → NotRun why ≡ answer
-        unfolding ran evaluated
-        refused-evaluated why q =
-            let few : 16 * fieldsOf book ≤ 128 = omega (arith, fields-are book z v) in
-            rw (v, eq-eqb (length packet) (fieldsOf book) k, le-leb (16 * fieldsOf book) (length result) l, le-leb 21760 (length work) a)
-            (by-tests (namesOpen (mainOf book)) (leb (width (mainOf book) (startSet packet)) 16) _
-            (rw (v, eq-eqb (length packet) (fieldsOf book) k, le-leb (16 * fieldsOf book) 128 few) at q))
-          where
-            by-tests : (o w : Bool) (r : Ran) → NotGiven why
-                ≡ elseNotGiven (not o) Unpopulated (elseNotGiven w TooWide (Given (outcome book packet)))
-                → NotRun why ≡ elseNotRun (not o) Unpopulated (elseNotRun w TooWide r)
-            by-tests true w r q = let c : why ≡ Unpopulated = cc in ap NotRun c
-            by-tests false false r q = let c : why ≡ TooWide = cc in ap NotRun c
-            by-tests false true r q = let y : _≡_ {A = ℕ} 0 1 = cc in absurd (omega arith)
+      pub refused-result : length result < 16 * z .fields
+          → RunAnswer book packet schedule result work (NotRun (noPlace BufferLength)) result work
+      refused-result l =
+          turned-away _
+          (ran-result book packet schedule (length result) (length work) z v words (rw (fields-are book z v .0) at l))
 
-  -- the evaluator gives packets: 12 and 11 are left
-  module _ (N : ℕ) (given : GivenRoom book packet N) where
+      pub refused-area : length work < 21760
+          → RunAnswer book packet schedule result work (NotRun (noPlace BufferLength)) result work
+      refused-area a = turned-away _ (ran-area book packet schedule (length result) (length work) z v words a)
+
+      module _ (l : 16 * z .fields ≤ length result) (a : 21760 ≤ length work) (r : Passage) (weighs : Weighs book packet r) where
+        fits : 16 * fieldsOf book ≤ length result
+        fits = rw (fields-are book z v .0) at l
+
+        pub refused-open : r ≡ Open → RunAnswer book packet schedule result work (NotRun (noPlace Unpopulated)) result work
+        refused-open e =
+            turned-away _
+            (ran-open book packet schedule (length result) (length work) z v words fits a (weighs-open book packet (rw e at weighs)))
+
+        pub refused-wide : r ≡ Wide → RunAnswer book packet schedule result work (NotRun (noPlace TooWide)) result work
+        refused-wide e =
+            let w = weighs-wide book packet (rw e at weighs) in
+            turned-away _
+            (ran-wide book packet schedule (length result) (length work) z v words fits a (w .populated) (w .wide))
+
+        pub weighed : (w : Weight) → r ≡ Through w → Weighed book packet result work (w .room)
+        weighed w e =
+            let g = weighs-through book packet w (rw e at weighs) in
+            record {
+              granted = record { sizes = z; accepted = v; words = words; populated = g .0; narrow = g .1 };
+              room = g .2;
+              fits = fits;
+              wide = a;
+            }
+
+  -- past 10: 11 is left
+  module _ (needs : ℕ) (w : Weighed book packet result work needs) where
     granted : Granted book packet
-    granted = given-was book packet 128 (given .outcome) (given .given) .0
+    granted = w .granted
 
-    pub words-are : (length packet ≡ fieldsOf book) × (length packet ≤ 8)
-    words-are = (granted .words, omega (arith, granted .words, fields-are book (granted .sizes) (granted .accepted)))
+    pub refused-positions : 160 < needs
+        → RunAnswer book packet schedule result work (NotRun (noPlace Positions)) result work
+    refused-positions h =
+        turned-away _
+        (ran-positions book packet schedule (length result) (length work) (w .fits) (w .wide) granted (omega (arith, w .room)))
 
-    room-is : N ≡ room (mainOf book) (startSet packet)
-    unfolding outcome
-    room-is = given .needs ∙ ap (λ (x : Outcome). x .room) (given-was book packet 128 (given .outcome) (given .given) .2)
+    pub few-words : length packet ≤ 8
+    few-words = omega (arith, granted .words, fields-are book (granted .sizes) (granted .accepted))
 
-    pub short-result : length result < 16 * length packet → NotRun BufferLength ≡ answer
-    short-result l = refused-result (granted .sizes) (granted .accepted) (granted .words) (rw (granted .words) at l)
+    module _ (small : Bytes book) (h : needs ≤ 160) where
+      pub runs : Readable book × Stands book (bodyStart book 0) × Playable book (start book packet)
+      runs =
+          let b = accepted-reads book (granted .sizes) (granted .accepted) small in
+          let st = accepted-stands book (granted .sizes) (granted .accepted) small (granted .populated) in
+          (b, st, start-playable book packet b st (granted .narrow) (omega (arith, w .room)))
 
-    module _ (l : 16 * length packet ≤ length result) where
-      pub fits : 16 * fieldsOf book ≤ length result
-      fits = rw (granted .words) at l
+      answer-is : answer ≡ stopOf book packet schedule
+      answer-is =
+          let admitted : Admitted book packet = record { granted = granted; positions = omega (arith, w .room) } in
+          ran-admitted book packet schedule (length result) (length work) (w .fits) (w .wide) admitted
+          (accepted-goes book (granted .sizes) (granted .accepted) small packet schedule)
 
-      pub short-area : length work < 21760 → NotRun BufferLength ≡ answer
-      short-area a = refused-area (granted .sizes) (granted .accepted) (granted .words) a
-
-      module _ (a : 21760 ≤ length work) where
-        pub refused-positions : 160 < N → NotRun Positions ≡ answer
-        refused-positions h =
-            sym (ran-positions book packet schedule (length result) (length work) fits a granted (omega (arith, room-is)))
-
-        module _ (small : Bytes book) (h : N ≤ 160) where
-          pub runs : Readable book × Stands book (bodyStart book 0) × Playable book (start book packet)
-          runs =
-              let b = accepted-reads book (granted .sizes) (granted .accepted) small in
-              let st = accepted-stands book (granted .sizes) (granted .accepted) small (granted .populated) in
-              (b, st, start-playable book packet b st (granted .narrow) (omega (arith, room-is)))
-
-          answer-is : answer ≡ stopOf book packet schedule
-          answer-is =
-              let admitted : Admitted book packet = record { granted = granted; positions = omega (arith, room-is) } in
-              ran-admitted book packet schedule (length result) (length work) admitted fits a
-              ∙ rw (accepted-goes book (granted .sizes) (granted .accepted) small packet schedule) refl
-
-          -- the conducted run is the answer
-          pub conducted : (r : Ran) (result′ work′ : List ℕ) → r ≡ stopOf book packet schedule
-              → result′ ≡ resultRun r (wordsOf book packet schedule) result → work′ ≡ overwritten (replicate 21760 0) work
-              → RunAnswer book packet schedule result work r result′ work′
-          unfolding ranResult ranArea
-          conducted r result′ work′ er eo ea =
-              let s : r ≡ answer = er ∙ sym answer-is in
-              run-answer s (eo ∙ ap (λ (x : Ran). resultRun x (wordsOf book packet schedule) result) s)
-              (ea ∙ stopped-area (finish (run (start book packet) schedule)) ∙ ap (λ (x : Ran). areaRun x work) (sym er ∙ s))
-            where
-              stopped-area : (fs : List Packets)
-                  → overwritten (replicate 21760 0) work ≡ areaRun
-                  (stopped (made (start book packet) schedule) (run (start book packet) schedule) fs) work
-              stopped-area [] = refl
-              stopped-area (f ∷ fs) = refl
+      -- the conducted run is the answer
+      pub conducted : (r : Ran) (result′ work′ : List ℕ) → r ≡ stopOf book packet schedule
+          → result′ ≡ resultRun r (wordsOf book packet schedule) result → work′ ≡ overwritten (replicate 21760 0) work
+          → RunAnswer book packet schedule result work r result′ work′
+      unfolding ranResult ranArea
+      conducted r result′ work′ er eo ea =
+          let s : r ≡ answer = er ∙ sym answer-is in
+          run-answer s (eo ∙ ap (λ (x : Ran). resultRun x (wordsOf book packet schedule) result) s)
+          (ea ∙ stopped-area (finish (run (start book packet) schedule)) ∙ ap (λ (x : Ran). areaRun x work) (sym er ∙ s))
+        where
+          stopped-area : (fs : List Packets)
+              → overwritten (replicate 21760 0) work ≡ areaRun
+              (stopped (made (start book packet) schedule) (run (start book packet) schedule) fs) work
+          stopped-area [] = refl
+          stopped-area (f ∷ fs) = refl

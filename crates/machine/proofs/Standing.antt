@@ -14,8 +14,8 @@ use Rattle.rules.specs.Reading.{fieldsOf, tablesOf, readsAt, writesAt, numberAt
 use Rattle.rules.specs.Packets.{Packets}
 use Rattle.rules.specs.States.{Spot, placed, place}
 use Rattle.rules.proofs.Decoding.{reads, drop-head, size-positive}
-use Rattle.book.proofs.CodeLaws.{part-suc}
-use Rattle.typing.proofs.Inside.{Placed, placed-not, placed-sum, placed-seq, placed-beside}
+use Rattle.rules.proofs.CodeLaws.{part-suc}
+use Rattle.rules.proofs.Inside.{Placed, placed-not, placed-sum, placed-seq, placed-beside}
 use Rattle.machine.specs.Shown.{partOf, Stands, Readable}
 
 -- a fine part may stand one deeper

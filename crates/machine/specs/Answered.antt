@@ -1,26 +1,22 @@
--- Between the parts of a run: the evaluator's answer, where the run of an admitted book stops, and the words that it leaves.
+-- Between the parts of a run: what is known before its first step, and the words that the run of an admitted book leaves.
+use Prim.Native.Nat.{ℕ, _*_, _≤_}
 use mathlib.Core.Path.{_≡_}
 use mathlib.Core.List.{List}
-use Prim.Native.Nat.{ℕ}
-use Rattle.rules.specs.declared.Outcome.{Outcome}
-use Rattle.rules.specs.declared.Evaluated.the-variants.{Given}
-use Rattle.rules.specs.declared.Ran.{Ran}
-use Rattle.rules.specs.Reading.{fieldsOf}
-use Rattle.rules.specs.Packets.{valuesOf}
-use Rattle.rules.specs.States.{finish, run, made}
-use Rattle.rules.specs.Answers.{start, stopped, finalOf, evaluated}
+use lib.ListN.{length}
+use Rattle.rules.specs.Packets.{mostPackets, valuesOf}
+use Rattle.rules.specs.Reading.{fieldsOf, mainOf}
+use Rattle.rules.specs.Working.{room}
+use Rattle.rules.specs.States.{finish, run}
+use Rattle.rules.specs.Answers.{areaWords, startSet, start, finalOf}
+use Rattle.rules.specs.Promises.{Granted}
 
--- the evaluator, with a buffer that is always long enough, gives packets, and this room
-pub record GivenRoom (book packet : List ℕ) (room : ℕ) : Type 0 where
-  pub outcome : Outcome
-  pub given : evaluated book packet 128 ≡ Given outcome
-  pub needs : room ≡ outcome .room
+-- past 1 to 10, and the room that a run needs
+pub record Weighed (book packet result work : List ℕ) (needs : ℕ) : Type 0 where
+  pub granted : Granted book packet
+  pub room : needs ≡ room (mainOf book) (startSet packet)
+  pub fits : mostPackets * fieldsOf book ≤ length result
+  pub wide : areaWords ≤ length work
 
--- where the run of an admitted book stops, and the words of the packets that it leaves
-abbrev pub stopOf : List ℕ → List ℕ → List ℕ → Ran
-stopOf book packet schedule =
-    let t = start book packet in
-    stopped (made t schedule) (run t schedule) (finish (run t schedule))
-
+-- the words of the packets that a run leaves
 abbrev pub wordsOf : List ℕ → List ℕ → List ℕ → List ℕ
 wordsOf book packet schedule = valuesOf (fieldsOf book) (finalOf (finish (run (start book packet) schedule)))

@@ -1,12 +1,13 @@
 // The step machine: a policy run under a schedule of choices, in a lent working area.
 // The area: 160 headers of 8 words in prefix order, then 160 slots of 128 values; headers past the live ones keep the free slots.
 // A header: the place of the part's code byte, phase, mask, count, slot. What the words mean stands in specs/.
+use evaluator::Passage;
 use packets::PacketSet;
-use rules::Evaluated;
 use rules::Finish;
 use rules::Progress;
 use rules::Ran;
-use rules::Refusal;
+use rules::Reason;
+use rules::Sizes;
 use rules::Verdict;
 ghost use mathlib.Core.Path.{_≡_};
 ghost use mathlib.Core.List.{[], _∷_, _++_};
@@ -16,12 +17,11 @@ ghost use lib.ListN.{length, drop, take, getD, replicate, set};
 ghost use lib.Seq.{paste};
 ghost use Rattle.rules.specs.Masks.{allFields};
 ghost use Rattle.rules.specs.Packets.{Ascending};
-ghost use Rattle.rules.specs.Reading.{after, numberAt, bodyStart, fieldsOf};
+ghost use Rattle.rules.specs.Reading.{after, numberAt, bodyStart, fieldsOf, verdict};
 ghost use Rattle.rules.specs.Working.{out};
 ghost use Rattle.rules.specs.States.{join};
-ghost use Rattle.rules.specs.declared.Evaluated.the-variants.{NotGiven};
-ghost use Rattle.rules.specs.declared.Ran.the-variants.{NotRun};
-ghost use Rattle.rules.specs.Answers.{start, resultRun, overwritten, evaluated, ran};
+ghost use Rattle.rules.specs.declared.Verdict.the-variants.{Accepted};
+ghost use Rattle.rules.specs.Answers.{start, stopOf, resultRun, overwritten};
 ghost use Rattle.rules.specs.Promises.{RunAnswer};
 ghost use Rattle.packets.specs.Rows.{rows, Is, Whole};
 ghost use Rattle.rows.specs.Arrays.{eightAt, storedAt};
@@ -32,7 +32,7 @@ ghost use Rattle.machine.specs.Shown.{flat, partOf, joinOf, placing, Sta
 ghost use Rattle.machine.specs.Shown.{Standing, StandingTwo, Entering, Leaving, Turns, Stepping, Stepped};
 ghost use Rattle.machine.specs.Shown.{Playable, Held, Advancing, Advanced, Played, Ended};
 ghost use Rattle.machine.specs.Made.{Puts, Entered, Settled, seqOf, notOf, sumOf, sidesOf, nextOf, notLeft, joinedOf, bothLeft};
-ghost use Rattle.machine.specs.Answered.{GivenRoom, stopOf, wordsOf};
+ghost use Rattle.machine.specs.Answered.{Weighed, wordsOf};
 
 // The eight words at b.
 fn read8(work: &[u16], b: usize) -> [u16; 8]
@@ -919,8 +919,8 @@ fn conduct(
     r
 }
 
-// The run where the evaluator gives packets: 12 and 11 are left to be looked for.
-fn run_given(
+// The run of a book and a packet that are past 1 to 10, with the room that it needs: 11 is left.
+fn run_weighed(
     book: &[u8],
     packet: &[u16],
     schedule: &[u8],
@@ -928,52 +928,45 @@ fn run_given(
     work: &mut [u16],
     room: u64,
 ) -> Ran
-    requires { ⌜ GivenRoom (now book) (now packet) room ⌝ }
+    requires { ⌜ Weighed (now book) (now packet) (now result) (now work) room ⌝ }
     ensures { λ r. ⌜ RunAnswer (now (book .entry)) (now (packet .entry)) (now (schedule .entry)) (now (result .entry))
         (now (work .entry)) r (now (result .exit)) (now (work .exit)) ⌝ }
 {
-    let k = packet.len();
-    if result.len() < 16 * k {
-        return Ran::NotRun(Refusal::BufferLength);
-    }
-    if work.len() < 21760 {
-        return Ran::NotRun(Refusal::BufferLength);
-    }
     if room > 160 {
-        return Ran::NotRun(Refusal::Positions);
+        return Ran::NotRun(rules::no_place(Reason::Positions));
     }
     conduct(book, packet, schedule, result, work)
 }
 
-// The refusal of a run where the evaluator refuses too: 12 comes before 9 and 10, and after 1 to 8.
-fn refusal_of(
+// The run of an accepted book, for a caller that has its sizes: 8, 12, 9, 10 and 11 in this order. Of the evaluator's answer nothing is
+// used but the refusal and the room.
+pub fn run_accepted(
     book: &[u8],
     packet: &[u16],
     schedule: &[u8],
-    result: &[u16],
-    work: &[u16],
-    why: Refusal,
-) -> Refusal
-    requires { ⌜ NotGiven why ≡ evaluated (now book) (now packet) 128 ⌝ }
-    ensures { λ r. ⌜ NotRun r ≡ ran (now (book .entry)) (now (packet .entry)) (now (schedule .entry))
-        (length (now (result .entry))) (length (now (work .entry))) ⌝ }
+    result: &mut [u16],
+    work: &mut [u16],
+    z: Sizes,
+) -> Ran
+    requires { ⌜ verdict (now book) ≡ Accepted z ⌝ }
+    ensures { λ r. ⌜ RunAnswer (now (book .entry)) (now (packet .entry)) (now (schedule .entry)) (now (result .entry))
+        (now (work .entry)) r (now (result .exit)) (now (work .exit)) ⌝ }
 {
-    let v = typing::accept(book);
-    match v {
-        Verdict::Refused(first) => first,
-        Verdict::Accepted(z) => {
-            let k = z.fields;
-            if packet.len() != k {
-                return Refusal::PacketLength;
-            }
-            if result.len() < 16 * k {
-                return Refusal::BufferLength;
-            }
-            if work.len() < 21760 {
-                return Refusal::BufferLength;
-            }
-            why
-        }
+    let k = z.fields;
+    if packet.len() != k {
+        return Ran::NotRun(rules::no_place(Reason::PacketLength));
+    }
+    if result.len() < 16 * k {
+        return Ran::NotRun(rules::no_place(Reason::BufferLength));
+    }
+    if work.len() < 21760 {
+        return Ran::NotRun(rules::no_place(Reason::BufferLength));
+    }
+    let passage = evaluator::weigh(book, packet);
+    match passage {
+        Passage::Open => Ran::NotRun(rules::no_place(Reason::Unpopulated)),
+        Passage::Wide => Ran::NotRun(rules::no_place(Reason::TooWide)),
+        Passage::Through(w) => run_weighed(book, packet, schedule, result, work, w.room),
     }
 }
 
@@ -988,12 +981,9 @@ pub fn run(
     ensures { λ r. ⌜ RunAnswer (now (book .entry)) (now (packet .entry)) (now (schedule .entry)) (now (result .entry))
         (now (work .entry)) r (now (result .exit)) (now (work .exit)) ⌝ }
 {
-    let mut out = [0u16; 128];
-    let e = evaluator::evaluate(book, packet, &mut out);
-    match e {
-        Evaluated::Given(o) => run_given(book, packet, schedule, result, work, o.room),
-        Evaluated::NotGiven(why) => {
-            Ran::NotRun(refusal_of(book, packet, schedule, result, work, why))
-        }
+    let v = typing::accept(book);
+    match v {
+        Verdict::Accepted(z) => run_accepted(book, packet, schedule, result, work, z),
+        Verdict::Refused(why) => Ran::NotRun(why),
     }
 }

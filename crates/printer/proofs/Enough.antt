@@ -9,11 +9,12 @@ use lib.Dec.{ltb, leb, lit<}
 use lib.ListN.{length, take, drop, length-drop}
 use lib.Seq.{take-all, take-take, length-take-le, getD-take}
 use borrow.Author.Tests.{ltb-true, ltb-false, leb-true, leb-false}
-use Rattle.rules.specs.declared.Refusal.the-variants.{Input}
+use Rattle.rules.specs.declared.Reason.the-variants.{Input}
 use Rattle.rules.specs.declared.Sizes.{Sizes}
 use Rattle.rules.specs.declared.Verdict.{Verdict}
 use Rattle.rules.specs.declared.Verdict.the-variants.{Accepted, Refused}
 use Rattle.rules.specs.Books.{mostBytes}
+use Rattle.rules.specs.Checks.{noPlace}
 use Rattle.rules.specs.Reading.{numberAt, fieldsOf, verdict}
 use Rattle.rules.proofs.AcceptedBooks.{accepted-fields}
 use Rattle.printer.specs.Printing.{bookIn, afterBook, refusedLine, printed}
@@ -33,7 +34,7 @@ part-take (suc m) n (suc w) (x ∷ l) h = part-take m n w l (omega arith)
 -- with so many bytes and an accepted book, the schedule is too long
 module _ (s : List ℕ) (long : mostInput ≤ length s) (few : numberAt s 0 ≤ mostBytes) (z : Sizes)
     (yes : verdict (bookIn s) ≡ Accepted z) where
-  too-many : printed s ≡ refusedLine Input
+  too-many : printed s ≡ refusedLine (noPlace Input)
   too-many =
       let k = accepted-fields (bookIn s) z yes .1 in
       let after = length-drop (2 + numberAt s 0) s in

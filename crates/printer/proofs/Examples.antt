@@ -7,13 +7,14 @@ use Rattle.rules.specs.Packets.{padded, passes, put, mix, orderOf, insert, unio
 use Rattle.rules.specs.Parts.{write, parts, deep, namesOpen}
 use Rattle.rules.specs.Typing.{tested, written, rightMasks, fitMasks, wrongs}
 use Rattle.rules.specs.Books.{entries, bytesOf, masksFit}
+use Rattle.rules.specs.Checks.{firstFailed}
 use Rattle.rules.specs.Reading.{byteIf, stands, operandFits, readOperands, readPart, readBody, bodyStart, readEntry}
 use Rattle.rules.specs.Reading.{readEntries, masksRight, after, built, partAt, bodyAt, useAt, mainOf, tablesFrom}
-use Rattle.rules.specs.Reading.{policyOf, wrongBody, misfit, wrongsIn, misfitsIn, typingFaults, sizesOf, verdict}
+use Rattle.rules.specs.Reading.{policyOf, wrongBody, misfit, wrongsIn, misfitsIn, typingFaults, formChecks, bookChecks}
 use Rattle.rules.specs.Working.{each, out, steps, room, own, widest, width}
 use Rattle.rules.specs.States.{join, place, enter, finish, leave, next, live, move, run, counted, made, used, lacking, stuckSteps, stuckIn}
-use Rattle.rules.specs.Answers.{start, ran}
-use Rattle.printer.specs.Printing.{decimalIn, furtherValues, valuesLine, packetLines, refusedLine, ranLines, ranIn, endsWith, printed}
+use Rattle.rules.specs.Answers.{packetChecks, start, runChecks, ran}
+use Rattle.printer.specs.Printing.{decimalIn, furtherValues, valuesLine, packetLines, refusedLine, ranLines, ranIn, endsWith, printChecks, printed}
 
 -- 00 11, the 17-byte book, the packet 00 05 00 09
 abbrev pub before : List ℕ → List ℕ
@@ -28,9 +29,10 @@ unfolding has apart within less
     padded passes put mix orderOf insert union keep member pairsInto valuesOf
     write parts deep namesOpen tested written rightMasks fitMasks wrongs entries bytesOf masksFit
     byteIf stands operandFits readOperands readPart readBody bodyStart readEntry readEntries masksRight
-    after built partAt bodyAt useAt mainOf tablesFrom policyOf wrongBody misfit wrongsIn misfitsIn typingFaults sizesOf verdict
+    after built partAt bodyAt useAt mainOf tablesFrom policyOf wrongBody misfit wrongsIn misfitsIn typingFaults
+    firstFailed formChecks bookChecks packetChecks runChecks
     each out steps room own widest width
     join place enter finish leave next live move run counted made used lacking stuckSteps stuckIn
     start ran
-    decimalIn furtherValues valuesLine packetLines refusedLine ranLines ranIn endsWith printed
+    decimalIn furtherValues valuesLine packetLines refusedLine ranLines ranIn endsWith printChecks printed
 examples = (refl, refl)

@@ -4,28 +4,21 @@ use Prim.Native.Nat.{ℕ, _*_, _≤_}
 use native.Mathlib.Omega.{arith}
 use native.Mathlib.Nat.{le-refl}
 use mathlib.Core.Path.{_≡_, refl, sym, ap, _∙_}
-use mathlib.Core.Bool.{Bool, true, false, not, _&&_}
 use mathlib.Core.Logic.{inl, inr}
 use mathlib.Core.List.{List, [], _∷_, _++_, append-assoc}
-use lib.Dec.{leb, eqb}
 use lib.ListN.{length, take, drop, length-append}
 use lib.Seq.{take-at, drop-at}
-use borrow.Author.Tests.{leb-true, eqb-true, not-true, le-leb}
+use borrow.Author.Tests.{le-leb}
 use Rattle.rules.specs.declared.Refusal.{Refusal}
 use Rattle.rules.specs.declared.Finish.{Finish}
 use Rattle.rules.specs.declared.Progress.{Progress}
-use Rattle.rules.specs.declared.Sizes.{Sizes}
-use Rattle.rules.specs.declared.Verdict.{Verdict}
-use Rattle.rules.specs.declared.Verdict.the-variants.{Accepted, Refused}
 use Rattle.rules.specs.declared.Ran.{Ran}
 use Rattle.rules.specs.declared.Ran.the-variants.{Finished, Running, NotRun}
 use Rattle.rules.specs.Packets.{Packet, Packets, mostPackets, _∈_, valuesOf}
-use Rattle.rules.specs.Parts.{namesOpen}
-use Rattle.rules.specs.Reading.{fieldsOf, mainOf, verdict}
-use Rattle.rules.specs.Working.{room, width}
-use Rattle.rules.specs.States.{finish, run, made, stuckIn}
-use Rattle.rules.specs.Answers.{mostPositions, areaWords, startSet, startSpot, given, start, elseNotRun, ranOf}
-use Rattle.rules.specs.Answers.{elseStuck, stopped, ran, ranResult, overwritten, finalOf}
+use Rattle.rules.specs.Reading.{fieldsOf, mainOf}
+use Rattle.rules.specs.States.{finish, run, made}
+use Rattle.rules.specs.Answers.{areaWords, startSet, startSpot, given, start, packetChecks, runChecks, stopOf}
+use Rattle.rules.specs.Answers.{ran, ranResult, overwritten, finalOf}
 use Rattle.rules.specs.Books.{Bytes}
 use Rattle.rules.specs.Promises.{Admitted}
 use Rattle.rules.proofs.Lists.{All, none, also}
@@ -33,6 +26,7 @@ use Rattle.rules.proofs.Sets.{map-in}
 use Rattle.rules.proofs.Padding.{as-long}
 use Rattle.rules.proofs.Bounds.{given as out-few}
 use Rattle.rules.proofs.Schedules.{Ending, enough, short, ending}
+use Rattle.rules.proofs.Answering.{finished-was}
 use Rattle.rules.proofs.Demands.{packets-exactly}
 use Rattle.printer.specs.Printing.{packetLines, refusedLine, ranLines}
 use Rattle.printer.specs.Building.{linesOf, runningLine, finishedLines, ranText}
@@ -60,48 +54,12 @@ lines-values {k} rest (also {x} {xs} e h) =
 
 -- ---- a run that finished was admitted, and ended with the packets that the policy gives
 
-else-was : (t : Bool) (r : Refusal) (a : Ran) (f : Finish) → elseNotRun t r a ≡ Finished f → (t ≡ true) × (a ≡ Finished f)
-else-was true r a f q = (refl, q)
-else-was false r a f q = let z : _≡_ {A = ℕ} 0 1 = cc in absurd (omega arith)
-
-verdict-was : (v : Verdict) (a : Ran) (f : Finish) → ranOf v a ≡ Finished f → (z : Sizes) × (v ≡ Accepted z) × (a ≡ Finished f)
-verdict-was (Accepted z) a f q = (z, refl, q)
-verdict-was (Refused r) a f q = let z : _≡_ {A = ℕ} 0 1 = cc in absurd (omega arith)
-
-stuck-was : (l : List ℕ) (a : Ran) (f : Finish) → elseStuck l a ≡ Finished f → a ≡ Finished f
-stuck-was [] a f q = q
-stuck-was (at ∷ l) a f q = let z : _≡_ {A = ℕ} 0 1 = cc in absurd (omega arith)
-
--- how a run that was admitted stopped
-abbrev atEnd : List ℕ → List ℕ → List ℕ → Ran
-atEnd book packet schedule =
-    let t = start book packet in stopped (made t schedule) (run t schedule) (finish (run t schedule))
-
 module _ (book packet schedule result : List ℕ) (area : ℕ) (f : Finish)
     (ended : ran book packet schedule (length result) area ≡ Finished f) where
-  was : Admitted book packet × (atEnd book packet schedule ≡ Finished f)
-  unfolding ran
-  was =
-      let v = verdict-was (verdict book) _ f ended in
-      let l = else-was (eqb (length packet) (fieldsOf book)) _ _ f (v .2) in
-      let b = else-was (leb (mostPackets * fieldsOf book) (length result) && leb areaWords area) _ _ f (l .1) in
-      let n = else-was (not (namesOpen (mainOf book))) _ _ f (b .1) in
-      let w = else-was (leb (width (mainOf book) (startSet packet)) mostPackets) _ _ f (n .1) in
-      let p = else-was (leb (room (mainOf book) (startSet packet)) mostPositions) _ _ f (w .1) in (
-        record {
-          granted = record {
-            sizes = v .0;
-            accepted = v .1;
-            words = eqb-true (length packet) (fieldsOf book) (l .0);
-            populated = not-true (namesOpen (mainOf book)) (n .0);
-            narrow = leb-true (width (mainOf book) (startSet packet)) mostPackets (w .0);
-          };
-          positions = leb-true (room (mainOf book) (startSet packet)) mostPositions (p .0);
-        },
-        stuck-was (stuckIn (start book packet) schedule) _ f (p .1),
-      )
+  was : Admitted book packet × (stopOf book packet schedule ≡ Finished f)
+  was = finished-was book packet schedule (length result) area f ended
 
-  by-ending : Ending (startSpot book) (mainOf book) (startSet packet) schedule → atEnd book packet schedule ≡ Finished f
+  by-ending : Ending (startSpot book) (mainOf book) (startSet packet) schedule → stopOf book packet schedule ≡ Finished f
       → (finish (run (start book packet) schedule) ≡ given book packet ∷ []) × (f .count ≡ length (given book packet))
   unfolding start given finish
   by-ending (enough h e n) q =
@@ -151,7 +109,7 @@ module _ (book packet schedule result : List ℕ) (area : ℕ) (f : Finish)
 -- the lengths decide only whether they are
 ran-alike : (book packet schedule : List ℕ) (words more : ℕ) → mostPackets * fieldsOf book ≤ words → mostPackets * fieldsOf book ≤ more
     → ran book packet schedule words areaWords ≡ ran book packet schedule more areaWords
-unfolding ran
+unfolding ran runChecks packetChecks
 ran-alike book packet schedule words more h k =
     rw (le-leb (mostPackets * fieldsOf book) words h, le-leb (mostPackets * fieldsOf book) more k)
 

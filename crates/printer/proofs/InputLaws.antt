@@ -6,11 +6,12 @@ use mathlib.Core.Path.{_≡_, refl, sym, ap, ap₂, _∙_}
 use mathlib.Core.List.{List, [], _∷_, _++_}
 use lib.ListN.{length, take, drop, length-drop}
 use lib.Seq.{getD-drop, take-all}
-use Rattle.rules.specs.declared.Refusal.the-variants.{PacketLength, Input}
+use Rattle.rules.specs.declared.Reason.the-variants.{PacketLength, Input}
 use Rattle.rules.specs.declared.Sizes.{Sizes}
 use Rattle.rules.specs.declared.Verdict.{Verdict}
 use Rattle.rules.specs.declared.Verdict.the-variants.{Accepted}
 use Rattle.rules.specs.Books.{mostBytes}
+use Rattle.rules.specs.Checks.{noPlace}
 use Rattle.rules.specs.Reading.{numberAt, fieldsOf, sizesOf, verdict}
 use Rattle.rules.proofs.AcceptedBooks.{accepted-sizes, accepted-fields}
 use Rattle.printer.specs.Printing.{mostChoices, bookIn, afterBook, wordsIn, scheduleIn, refusedLine, ranIn, endsWith, printed}
@@ -47,7 +48,7 @@ pub book-judged : (input : List ℕ) (n : ℕ) {r v : Verdict} → n ≡ numberA
 book-judged input n e j k = ap verdict (sym (book-part input n e)) ∙ sym j ∙ k
 
 pub accepts : (input : List ℕ) (n : ℕ) (z : Sizes) → n ≡ numberAt input 0 → n ≤ mostBytes → 2 + n ≤ length input
-    → verdict (bookIn input) ≡ Accepted z → Accepts input n (z .fields)
+    → verdict (bookIn input) ≡ Accepted z → Accepts input n z
 unfolding sizesOf
 accepts input n z e few whole ok =
     let fields : z .fields ≡ fieldsOf (bookIn input) = ap (λ (y : Sizes). y .fields) (accepted-sizes (bookIn input) z ok) in
@@ -55,7 +56,6 @@ accepts input n z e few whole ok =
       number = e;
       few = few;
       whole = whole;
-      sizes = z;
       accepted = ok;
       fields = fields;
       eight = rw fields (accepted-fields (bookIn input) z ok .1);
@@ -65,7 +65,10 @@ accepts input n z e few whole ok =
 abbrev pub tailOf : ℕ → List ℕ → List ℕ
 tailOf m l = take (length l - m) (drop m l)
 
-module _ (input : List ℕ) (n k : ℕ) (a : Accepts input n k) where
+module _ (input : List ℕ) (n : ℕ) (z : Sizes) (a : Accepts input n z) where
+  abbrev k : ℕ
+  k = z .fields
+
   rest-part : tailOf (2 + n) input ≡ afterBook input
   rest-part = tail-part (2 + n) input ∙ ap (λ (m : ℕ). drop (2 + m) input) (a .number)
 
@@ -74,6 +77,9 @@ module _ (input : List ℕ) (n k : ℕ) (a : Accepts input n k) where
 
   pub book-fields : k ≡ fieldsOf (take (2 + n - 2) (drop 2 input))
   book-fields = a .fields ∙ ap fieldsOf (sym (book-part input n (a .number)))
+
+  pub book-accepted : verdict (take (2 + n - 2) (drop 2 input)) ≡ Accepted z
+  book-accepted = ap verdict (book-part input n (a .number)) ∙ a .accepted
 
   -- the ways that are left, on these parts
   two : 2 ≤ length input
@@ -85,21 +91,21 @@ module _ (input : List ℕ) (n k : ℕ) (a : Accepts input n k) where
   whole : 2 + numberAt input 0 ≤ length input
   whole = rw (← a .number) (a .whole)
 
-  pub way-cut-packet : length (tailOf (2 + n) input) < 2 * k → printed input ≡ refusedLine PacketLength
-  way-cut-packet h = printed-cut-packet input two few whole (a .sizes) (a .accepted) (rw (← a .fields, ← rest-part) h)
+  pub way-cut-packet : length (tailOf (2 + n) input) < 2 * k → printed input ≡ refusedLine (noPlace PacketLength)
+  way-cut-packet h = printed-cut-packet input two few whole z (a .accepted) (rw (← a .fields, ← rest-part) h)
 
   module _ (enough : 2 * k ≤ length (tailOf (2 + n) input)) where
     packet : 2 * fieldsOf (bookIn input) ≤ length (afterBook input)
     packet = rw (← a .fields, ← rest-part) enough
 
-    pub way-long-schedule : mostChoices < length (tailOf (2 * k) (tailOf (2 + n) input)) → printed input ≡ refusedLine Input
+    pub way-long-schedule : mostChoices < length (tailOf (2 * k) (tailOf (2 + n) input)) → printed input ≡ refusedLine (noPlace Input)
     way-long-schedule h =
-        printed-long-schedule input two few whole (a .sizes) (a .accepted) packet (rw (← schedule-part) h)
+        printed-long-schedule input two few whole z (a .accepted) packet (rw (← schedule-part) h)
 
     pub way-ran : length (tailOf (2 * k) (tailOf (2 + n) input)) ≤ mostChoices
         → printed input
         ≡ ranText (take (2 + n - 2) (drop 2 input)) (wordsIn k (tailOf (2 + n) input)) (tailOf (2 * k) (tailOf (2 + n) input))
     unfolding ranText ranIn endsWith
     way-ran h =
-        printed-ran input two few whole (a .sizes) (a .accepted) packet (rw (← schedule-part) h)
+        printed-ran input two few whole z (a .accepted) packet (rw (← schedule-part) h)
         ∙ rw (book-part input n (a .number), schedule-part, rest-part, a .fields)

@@ -58,15 +58,14 @@ finishedLines k f words =
 
 -- ---- between the parts of the program
 
--- the input begins with a book of n bytes that is accepted, with k fields
-pub record Accepts (input : List ℕ) (n k : ℕ) : Type 0 where
+-- the input begins with a book of n bytes that is accepted, with these sizes
+pub record Accepts (input : List ℕ) (n : ℕ) (z : Sizes) : Type 0 where
   pub number : n ≡ numberAt input 0
   pub few : n ≤ mostBytes
   pub whole : 2 + n ≤ length input
-  pub sizes : Sizes
-  pub accepted : verdict (bookIn input) ≡ Accepted sizes
-  pub fields : k ≡ fieldsOf (bookIn input)
-  pub eight : k ≤ 8
+  pub accepted : verdict (bookIn input) ≡ Accepted z
+  pub fields : z .fields ≡ fieldsOf (bookIn input)
+  pub eight : z .fields ≤ 8
 
 -- what is printed of a run
 unfoldable pub ranText : List ℕ → List ℕ → List ℕ → List ℕ

@@ -1,20 +1,20 @@
 -- What the run printer writes for any input (document 01, "The run printer").
 use Prim.Native.Nat.{ℕ, zero, suc, _+_, _*_, _/_, _%_}
-use mathlib.Core.Bool.{Bool, cond}
+use mathlib.Core.Bool.{cond}
 use mathlib.Core.List.{List, [], _∷_, _++_}
-use lib.Dec.{ltb}
+use mathlib.Core.Option.{Option, none, some}
+use lib.Dec.{ltb, leb}
 use lib.ListN.{length, take, drop}
+use Rattle.rules.specs.declared.Reason.the-variants.{BookLength, PacketLength, Input}
 use Rattle.rules.specs.declared.Refusal.{Refusal}
-use Rattle.rules.specs.declared.Refusal.the-variants.{BookLength, PacketLength, Input}
-use Rattle.rules.specs.declared.Verdict.{Verdict}
-use Rattle.rules.specs.declared.Verdict.the-variants.{Accepted, Refused}
 use Rattle.rules.specs.declared.Ran.{Ran}
 use Rattle.rules.specs.declared.Ran.the-variants.{Finished, Running, NotRun}
 use Rattle.rules.specs.Packets.{Packets, mostPackets}
 use Rattle.rules.specs.Books.{mostBytes}
-use Rattle.rules.specs.Reading.{numberAt, fieldsOf, verdict}
+use Rattle.rules.specs.Checks.{numberOf, Check, check, firstFailed}
+use Rattle.rules.specs.Reading.{numberAt, fieldsOf, bookChecks}
 use Rattle.rules.specs.States.{finish, run}
-use Rattle.rules.specs.Answers.{numberOf, placeOf, areaWords, start, ran, finalOf}
+use Rattle.rules.specs.Answers.{areaWords, start, ran, finalOf}
 
 -- "a schedule over 8,192 bytes, 14"
 abbrev pub mostChoices : ℕ
@@ -82,7 +82,7 @@ packetLines k (x ∷ s) = valuesLine (take k x) ++ packetLines k s
 -- ---- the answers
 
 unfoldable pub refusedLine : Refusal → List ℕ
-refusedLine r = refusedWord ++ (blankThen (numberOf r) ++ (blankThen (placeOf r) ++ lineEnd))
+refusedLine r = refusedWord ++ (blankThen (numberOf r) ++ (blankThen (r .place) ++ lineEnd))
 
 -- k is the number of fields, and s the packets of a finished run
 unfoldable pub ranLines : ℕ → Packets → Ran → List ℕ
@@ -98,22 +98,21 @@ ranIn input =
 unfoldable pub endsWith : List ℕ → Packets
 endsWith input = finalOf (finish (run (start (bookIn input) (packetIn input)) (scheduleIn input)))
 
--- the refusal's line if the test holds
-abbrev pub orElse : Bool → Refusal → List ℕ → List ℕ
-orElse b r text = cond b (refusedLine r) text
-
-abbrev pub ifAccepted : Verdict → List ℕ → List ℕ
-ifAccepted (Accepted z) text = text
-ifAccepted (Refused r) text = refusedLine r
-
 -- "In this order: fewer than two bytes, 14; a length over 4,096, 1, whether the bytes follow or not; a cut book, 14; the book's own
 -- 1 to 7; a cut packet, 8; a schedule over 8,192 bytes, 14; then 9 to 11 and 13"
+unfoldable pub printChecks : List ℕ → List Check
+printChecks input =
+    check (leb 2 (length input)) Input
+    ∷ check (leb (numberAt input 0) mostBytes) BookLength
+    ∷ check (leb (2 + numberAt input 0) (length input)) Input
+    ∷ (bookChecks (bookIn input)
+    ++ (check (leb (2 * fieldsOf (bookIn input)) (length (afterBook input))) PacketLength
+    ∷ check (leb (length (scheduleIn input)) mostChoices) Input
+    ∷ []))
+
+abbrev pub printedBy : Option Refusal → List ℕ → List ℕ
+printedBy none text = text
+printedBy (some r) text = refusedLine r
+
 unfoldable pub printed : List ℕ → List ℕ
-printed input =
-    orElse (ltb (length input) 2) Input
-    (orElse (ltb mostBytes (numberAt input 0)) BookLength
-    (orElse (ltb (length input) (2 + numberAt input 0)) Input
-    (ifAccepted (verdict (bookIn input))
-    (orElse (ltb (length (afterBook input)) (2 * fieldsOf (bookIn input))) PacketLength
-    (orElse (ltb mostChoices (length (scheduleIn input))) Input
-    (ranLines (fieldsOf (bookIn input)) (endsWith input) (ranIn input)))))))
+printed input = printedBy (firstFailed (printChecks input)) (ranLines (fieldsOf (bookIn input)) (endsWith input) (ranIn input))

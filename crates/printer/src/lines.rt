@@ -28,8 +28,7 @@ pub fn refused(r: Refusal) -> Text
     ensures { λ t. ⌜ Holds t (refusedLine r) ⌝ }
 {
     let number = rules::number_of(r);
-    let place = rules::place_of(r);
-    add_byte(opening(b"refused", number, place), b'\n')
+    add_byte(opening(b"refused", number, r.place), b'\n')
 }
 
 // running STEPS LIVE READY

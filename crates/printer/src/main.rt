@@ -9,14 +9,16 @@ use lines::finished;
 use lines::refused;
 use lines::running;
 use rules::Ran;
-use rules::Refusal;
+use rules::Reason;
+use rules::Sizes;
 use rules::Verdict;
 use text::Text;
 ghost use Prim.Native.Nat.{_+_, _*_, _<_, _≤_};
 ghost use mathlib.Core.Path.{_≡_};
 ghost use lib.ListN.{length, take};
 ghost use Rattle.io.specs.Counts.{Counts};
-ghost use Rattle.rules.specs.Reading.{numberAt, fieldsOf};
+ghost use Rattle.rules.specs.declared.Verdict.the-variants.{Accepted};
+ghost use Rattle.rules.specs.Reading.{numberAt, fieldsOf, verdict};
 ghost use Rattle.printer.specs.Printing.{wordsIn, printed};
 ghost use Rattle.printer.specs.Building.{Holds, Accepts, ranText, text, textOf};
 
@@ -43,36 +45,37 @@ fn packet_of(s: &[u8], k: usize) -> [u16; 8]
 }
 
 // The answer of the machine, with a result and a working area of its own.
-fn print_machine(book: &[u8], packet: &[u16], schedule: &[u8], k: usize) -> Text
-    requires { ⌜ (k ≡ fieldsOf (now book)) × (k ≤ 8) ⌝ }
+fn print_machine(book: &[u8], packet: &[u16], schedule: &[u8], z: Sizes) -> Text
+    requires { ⌜ (z .fields ≡ fieldsOf (now book)) × (z .fields ≤ 8) × (verdict (now book) ≡ Accepted z) ⌝ }
     ensures { λ t. ⌜ Holds t (ranText (now (book .entry)) (now (packet .entry)) (now (schedule .entry))) ⌝ }
 {
     let mut result = [0u16; 128];
     let mut work = [0u16; 21760];
-    match machine::run(book, packet, schedule, &mut result, &mut work) {
-        Ran::Finished(f) => finished(f, k, &result),
+    match machine::run_accepted(book, packet, schedule, &mut result, &mut work, z) {
+        Ran::Finished(f) => finished(f, z.fields, &result),
         Ran::Running(p) => running(p),
         Ran::NotRun(r) => refused(r),
     }
 }
 
-// What follows an accepted book of n bytes and k fields: the packet and the schedule.
-fn print_accepted(input: &[u8], n: usize, k: usize) -> Text
-    requires { ⌜ Accepts (now input) n k ⌝ }
+// What follows an accepted book of n bytes: the packet and the schedule.
+fn print_accepted(input: &[u8], n: usize, z: Sizes) -> Text
+    requires { ⌜ Accepts (now input) n z ⌝ }
     ensures { λ t. ⌜ Holds t (printed (now (input .entry))) ⌝ }
 {
     let from = 2 + n;
     let rest = &input[from..];
+    let k = z.fields;
     let bytes = 2 * k;
     if rest.len() < bytes {
-        return refused(Refusal::PacketLength);
+        return refused(rules::no_place(Reason::PacketLength));
     }
     let schedule = &rest[bytes..];
     if 8192 < schedule.len() {
-        return refused(Refusal::Input);
+        return refused(rules::no_place(Reason::Input));
     }
     let packet = packet_of(rest, k);
-    print_machine(&input[2..from], &packet[..k], schedule, k)
+    print_machine(&input[2..from], &packet[..k], schedule, z)
 }
 
 // Exactly what document 01 says is printed for an input.
@@ -81,19 +84,19 @@ pub fn print_run(input: &[u8]) -> Text
     ensures { λ t. ⌜ Counts (t .len) (t .bytes) ⌝ }
 {
     if input.len() < 2 {
-        return refused(Refusal::Input);
+        return refused(rules::no_place(Reason::Input));
     }
     let n = number_at(input, 0) as usize;
     if 4096 < n {
-        return refused(Refusal::BookLength);
+        return refused(rules::no_place(Reason::BookLength));
     }
     let from = 2 + n;
     if input.len() < from {
-        return refused(Refusal::Input);
+        return refused(rules::no_place(Reason::Input));
     }
     match typing::accept(&input[2..from]) {
         Verdict::Refused(r) => refused(r),
-        Verdict::Accepted(z) => print_accepted(input, n, z.fields),
+        Verdict::Accepted(z) => print_accepted(input, n, z),
     }
 }
 

@@ -14,8 +14,7 @@ fn refusal_numbers(r: Refusal) -> [u64; 6]
     ensures { λ n. ⌜ n ≡ numbersOf (refusalSays r) ⌝ }
 {
     let number = rules::number_of(r) as u64;
-    let place = rules::place_of(r) as u64;
-    [0, number, place, 0, 0, 0]
+    [0, number, r.place as u64, 0, 0, 0]
 }
 
 pub fn verdict_numbers(v: Verdict) -> [u64; 6]

@@ -10,4 +10,4 @@ unfolding refusalSays codeOf valuesOf
 returns c = search needs
 
 pub refusal-face-spec : {M : Type 1} → statement M
-refusal-face-spec = tie.close (tie.spec (λ c κs. search needs) (λ c κs. search needs) returns)
+refusal-face-spec = tie.close (tie.spec (λ c κs. search needs) returns)

@@ -7,19 +7,21 @@ use Rattle.printer.proofs.print_run.Statement.{statement}
 use Rattle.printer.proofs.print_run.Tie as tie
 
 returns : tie.Need-returns
-returns c = told (rw (printed-no-length _ (c .before .if1 .taken)) (c .refused .ensures))
+returns c = told (rw (printed-no-length _ (c .before .before .if1 .taken), ← c .before .no-place .ensures) (c .refused .ensures))
 
 returns-2 : tie.Need-returns-2
 returns-2 c =
-    let over = rw (c .before .before .number-at .ensures) at (c .before .if2 .taken) in
-    told (rw (printed-long-book _ (c .before .before .before .if1 .left) over) (c .refused2 .ensures))
+    let i = c .before .before in
+    let over = rw (i .before .number-at .ensures) at (i .if2 .taken) in
+    told (rw (printed-long-book _ (i .before .before .if1 .left) over, ← c .before .no-place2 .ensures) (c .refused2 .ensures))
 
 returns-3 : tie.Need-returns-3
 returns-3 c =
-    let n = c .before .before .before .number-at .ensures in
-    let few = rw n at (c .before .before .if2 .left) in
-    let cut = rw n at (c .before .if3 .taken) in
-    told (rw (printed-cut-book _ (c .before .before .before .before .if1 .left) few cut) (c .refused3 .ensures))
+    let i = c .before .before in
+    let n = i .before .before .number-at .ensures in
+    let few = rw n at (i .before .if2 .left) in
+    let cut = rw n at (i .if3 .taken) in
+    told (rw (printed-cut-book _ (i .before .before .before .if1 .left) few cut, ← c .before .no-place3 .ensures) (c .refused3 .ensures))
 
 print-accepted-requires : tie.Need-print-accepted-requires
 print-accepted-requires c κs =
@@ -47,12 +49,15 @@ print-run-spec =
     tie.close
     (tie.spec
     (λ c κs. search needs)
+    (λ c κs. search needs)
     returns
     (λ c κs. search needs)
     (λ c. search needs)
     (λ c κs. search needs)
+    (λ c κs. search needs)
     returns-2
     (λ c. search needs)
+    (λ c κs. search needs)
     (λ c κs. search needs)
     returns-3
     (λ c. search needs)

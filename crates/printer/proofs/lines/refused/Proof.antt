@@ -10,21 +10,19 @@ use Rattle.printer.proofs.lines.refused.Tie as tie
 
 add-byte-requires : tie.Need-add-byte-requires
 add-byte-requires c κs =
-    let number = c .before .before .before .number-of .result in
-    let place = c .before .before .place-of .result in
-    room-after _ (c .opening .ensures) (omega (arith, opening-few refusedWord number place))
+    let n = c .before .before in
+    room-after _ (c .opening .ensures) (omega (arith, opening-few refusedWord (n .number-of .result) (n .before .args .r .place)))
 
 returns : tie.Need-returns
 unfolding refusedLine
 returns c =
-    rw (← c .before .before .before .place-of .ensures, ← c .before .before .before .before .number-of .ensures)
+    rw (← c .before .before .before .number-of .ensures)
     (simp append-assoc at (holds-more (c .before .opening .ensures) (c .add-byte .ensures)))
 
 pub refused-spec : {M : Type 1} → statement M
 refused-spec =
     tie.close
     (tie.spec
-    (λ c κs. search needs)
     (λ c κs. search needs)
     (λ c. search needs)
     (λ c κs. search needs)

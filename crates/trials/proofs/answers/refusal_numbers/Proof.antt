@@ -7,7 +7,7 @@ use Rattle.trials.proofs.answers.refusal_numbers.Tie as tie
 
 returns : tie.Need-returns
 unfolding numbersOf refusalSays
-returns c = rw (c .before .number-of .ensures, c .place-of .ensures)
+returns c = rw (c .number-of .ensures)
 
 pub refusal-numbers-spec : {M : Type 1} → statement M
-refusal-numbers-spec = tie.close (tie.spec (λ c κs. search needs) (λ c κs. search needs) returns)
+refusal-numbers-spec = tie.close (tie.spec (λ c κs. search needs) returns)
