@@ -8,7 +8,7 @@ use native.Mathlib.Omega.{arith}
 use lib.ListN.{length, take, drop, getD, length-append, List·getD-eq-default}
 use lib.Seq.{length-take-le}
 use Rattle.rules.specs.States.{Tree, next, ready, move, run}
-use Rattle.rules.proofs.Lists.{All, also}
+use Rattle.rules.specs.Lists.{All, also}
 use Rattle.machine.specs.Ready.{rdL, count, nth, marks}
 use Rattle.machine.specs.Shown.{Live, flat, state, Fit, stepped, Stepping, Stepped, Held, Advancing, Advanced}
 use Rattle.machine.proofs.Scans.{length-marks}

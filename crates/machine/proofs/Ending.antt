@@ -12,7 +12,7 @@ use Rattle.rules.specs.declared.Ran.the-variants.{Finished, Running}
 use Rattle.rules.specs.Packets.{Packets, Ascending, valuesOf}
 use Rattle.rules.specs.States.{Tree, done, finish, ready, run, live as liveIn, made}
 use Rattle.rules.specs.Answers.{overwritten, stopped, finalOf, resultRun}
-use Rattle.rules.proofs.Lists.{All, also}
+use Rattle.rules.specs.Lists.{All, also}
 use Rattle.rules.proofs.Measures.{final}
 use Rattle.rules.proofs.Schedules.{view, finished, unfinished}
 use Rattle.packets.specs.declared.PacketSet.{PacketSet}

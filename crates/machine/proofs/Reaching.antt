@@ -12,11 +12,12 @@ use Rattle.rules.specs.Working.{room, width}
 use Rattle.rules.specs.States.{Spot, on, moved, losing, Join, entered, split, paired, join, Tree, placed, done, waiting, negated, both}
 use Rattle.rules.specs.States.{place, enter, finish, leave, next, live, run, held}
 use Rattle.rules.specs.Answers.{startSet, startSpot, start}
-use Rattle.rules.proofs.Lists.{All, none, also, all-append, all-map}
+use Rattle.rules.proofs.Lists.{all-append, all-map}
 use Rattle.rules.proofs.Sets.{union-ascending, gathered-ascending, keep-ascending, pairs-ascending}
 use Rattle.rules.proofs.Schedules.{run-keeps, held-width}
 use Rattle.rules.proofs.Rooms.{live-room}
 use Rattle.rules.specs.Places.{Everywhere}
+use Rattle.rules.specs.Lists.{All, none, also}
 use Rattle.rules.proofs.Everywhere.{Inherited, run-everywhere}
 use Rattle.machine.specs.Shown.{Placed, Done, Waiting, Negated, Both, flat, partOf, Stands, Readable, Fit, Playable}
 use Rattle.machine.proofs.Standing.{Found, below-not, below-sum, below-seq, below-beside, below-table}

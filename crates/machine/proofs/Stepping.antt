@@ -12,7 +12,8 @@ use lib.ListN.{length, take, drop, getD, length-append, length-drop, length-map,
 use lib.Seq.{drop-cons}
 use Rattle.rules.specs.Packets.{Packets, Ascending, keep, lacks}
 use Rattle.rules.specs.States.{join, place, enter}
-use Rattle.rules.proofs.Lists.{All, also, all-at}
+use Rattle.rules.specs.Lists.{All, also}
+use Rattle.rules.proofs.Lists.{all-at}
 use Rattle.rules.proofs.Decoding.{and-was}
 use Rattle.machine.specs.Area.{Pos, here, nodes, given, finished, Becomes}
 use Rattle.machine.specs.Ready.{fin, marks}

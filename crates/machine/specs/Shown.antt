@@ -11,7 +11,7 @@ use Rattle.rules.specs.Books.{mostFields, mostBytes, mostDepth, scopeOf, Fine}
 use Rattle.rules.specs.Reading.{fieldsOf, tablesOf, bodyStart, partAt, bodyAt, useAt}
 use Rattle.rules.specs.States.{Spot, Join, entered, split, paired, join, Tree, placed, done, waiting, negated, both, place, enter, ready}
 use Rattle.rules.specs.States.{move, run, made as madeIn}
-use Rattle.rules.proofs.Lists.{All}
+use Rattle.rules.specs.Lists.{All}
 use Rattle.machine.specs.Ready.{rdL, marks}
 use Rattle.machine.specs.Area.{Pos, here, nodes, order, Wf, Becomes}
 

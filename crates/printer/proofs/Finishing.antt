@@ -21,7 +21,7 @@ use Rattle.rules.specs.Answers.{areaWords, startSet, startSpot, given, start, p
 use Rattle.rules.specs.Answers.{ran, ranResult, overwritten, finalOf}
 use Rattle.rules.specs.Books.{Bytes}
 use Rattle.rules.specs.Promises.{Admitted}
-use Rattle.rules.proofs.Lists.{All, none, also}
+use Rattle.rules.specs.Lists.{All, none, also}
 use Rattle.rules.proofs.Sets.{map-in}
 use Rattle.rules.proofs.Padding.{as-long}
 use Rattle.rules.proofs.Bounds.{given as out-few}

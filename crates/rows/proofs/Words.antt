@@ -6,7 +6,7 @@ use native.Mathlib.Omega.{arith}
 use lib.ListN.{length, take, drop, replicate, length-take, length-drop, take-append-drop}
 use lib.Seq.{take-all, take-add, length-take-le}
 use Rattle.rules.specs.Packets.{Packet, Packets, valuesOf}
-use Rattle.rules.proofs.Lists.{All, none, also}
+use Rattle.rules.specs.Lists.{All, none, also}
 use Rattle.rows.specs.Chunks.{chunks, Held}
 use Rattle.rows.proofs.Fillings.{held-count}
 

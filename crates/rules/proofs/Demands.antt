@@ -31,7 +31,7 @@ use Rattle.rules.specs.Fields.{Has}
 use Rattle.rules.specs.Places.{Everywhere, InPlace}
 use Rattle.rules.specs.Promises.{packetsGiven, Granted, Admitted, stepsOf, Stops}
 use Rattle.rules.specs.Ends.{TurnedAway, FinishedExactly, RunningExactly}
-use Rattle.rules.proofs.Lists.{All}
+use Rattle.rules.specs.Lists.{All}
 use Rattle.rules.proofs.Serial.{serializes, commutes}
 use Rattle.rules.proofs.Padding.{as-long, words-exact, words-ascending, words-determined}
 use Rattle.rules.proofs.Schedules.{held-width}

@@ -6,7 +6,8 @@ use Rattle.rules.specs.Parts.{Part, Id, Drop, Test, Set, Not, Sum, Seq, 
 use Rattle.rules.specs.States.{Spot, on, moved, losing, Join, Tree, placed, done, waiting, negated, both, place}
 use Rattle.rules.specs.States.{enter, finish, leave, next, run}
 use Rattle.rules.specs.Places.{Everywhere}
-use Rattle.rules.proofs.Lists.{All, none, also, all-append, all-map}
+use Rattle.rules.specs.Lists.{All, none, also}
+use Rattle.rules.proofs.Lists.{all-append, all-map}
 use Rattle.rules.proofs.Schedules.{run-keeps}
 
 -- a property of a part at a spot that each part hands down to the parts below it, where a step places them

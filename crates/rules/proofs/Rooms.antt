@@ -11,7 +11,8 @@ use Rattle.rules.specs.Parts.{Part, Id, Drop, Test, Set, Not, Sum, Seq, 
 use Rattle.rules.specs.Working.{each, out, room}
 use Rattle.rules.specs.States.{Spot, Join, entered, split, paired, Tree, placed, done, waiting, negated, both}
 use Rattle.rules.specs.States.{place, enter, finish, leave, next, live, ready, move, run}
-use Rattle.rules.proofs.Lists.{All, none, also, all-at}
+use Rattle.rules.specs.Lists.{All, none, also}
+use Rattle.rules.proofs.Lists.{all-at}
 use Rattle.rules.proofs.Measures.{peak}
 use Rattle.rules.proofs.Steps.{Step, next-step, place-peak}
 use Rattle.rules.proofs.Schedules.{ran}

@@ -11,7 +11,8 @@ use Rattle.rules.specs.Parts.{Part}
 use Rattle.rules.specs.Working.{out, steps, width}
 use Rattle.rules.specs.States.{Spot, Join, Tree, placed, done, waiting, negated, both, place, finish, leave, next, held}
 use Rattle.rules.specs.States.{ready, move, run, counted, made}
-use Rattle.rules.proofs.Lists.{All, all-at, all-or}
+use Rattle.rules.specs.Lists.{All}
+use Rattle.rules.proofs.Lists.{all-at, all-or}
 use Rattle.rules.proofs.Measures.{final, rest, peak, broad}
 use Rattle.rules.proofs.Bounds.{handed}
 use Rattle.rules.proofs.Steps.{Step, next-step, enter-rest, place-final, place-rest, place-broad}

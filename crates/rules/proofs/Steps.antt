@@ -8,7 +8,8 @@ use Rattle.rules.specs.Parts.{Part, Id, Drop, Test, Set, Not, Sum, Seq, 
 use Rattle.rules.specs.Working.{each, out, steps, room, own, width}
 use Rattle.rules.specs.States.{Spot, on, moved, losing, Join, join, Tree, placed, done, waiting, negated, both}
 use Rattle.rules.specs.States.{place, enter, finish, leave, next}
-use Rattle.rules.proofs.Lists.{All, none, also, all-append, all-map}
+use Rattle.rules.specs.Lists.{All, none, also}
+use Rattle.rules.proofs.Lists.{all-append, all-map}
 use Rattle.rules.proofs.Sets.{keep-length}
 use Rattle.rules.proofs.Measures.{final, extra, rest, peak, broad}
 use Rattle.rules.proofs.Bounds.{handed, width-one, width-more}

@@ -11,7 +11,8 @@ use Rattle.rules.specs.Typing.{tested, written, Right}
 use Rattle.rules.specs.States.{Spot, on, moved, losing, Join, entered, split, paired, Tree}
 use Rattle.rules.specs.States.{place, enter, finish, leave, next, ready, move, run, used, lacking, stuckSteps, stuckIn}
 use Rattle.rules.specs.Fields.{Holds, Later, same, second, body, Stands, here, ended, first, under, summed, parted, sides, Has}
-use Rattle.rules.proofs.Lists.{All, none, also, all-append, all-map, all-or}
+use Rattle.rules.specs.Lists.{All, none, also}
+use Rattle.rules.proofs.Lists.{all-append, all-map, all-or}
 use Rattle.rules.proofs.MaskLaws.{has-zero, sub-or-l, sub-or-r, less-in}
 use Rattle.rules.proofs.MaskExt.{sub-within}
 use Rattle.rules.proofs.TypingLaws.{right-sides, fit-body}

@@ -10,7 +10,7 @@ use Rattle.rules.specs.Packets.{Packet, Packets, without}
 use Rattle.rules.specs.Parts.{Part, Id, Drop, Test, Set, Not, Sum, Seq, Beside, Table, Open}
 use Rattle.rules.specs.Working.{out, room, own, widest, width}
 use Rattle.rules.specs.States.{Spot, on, Join, entered, split, paired, Tree, waiting, negated, both, place, enter, run, held}
-use Rattle.rules.proofs.Lists.{All}
+use Rattle.rules.specs.Lists.{All}
 use Rattle.rules.proofs.Bounds.{width-one, width-more}
 use Rattle.rules.proofs.Schedules.{held-width}
 use Rattle.rules.proofs.Ways.{Reaches, reach-here, reach-as, reach-out, reach-enter, reach-first, reach-second}

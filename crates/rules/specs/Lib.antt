@@ -1,4 +1,5 @@
 -- Document 01 as definitions, in its order. Read these; what is shown of them stands under proofs/.
+pub mod Lists
 pub mod Masks
 pub mod Packets
 pub mod Codes

@@ -6,7 +6,7 @@ use native.Mathlib.Omega.{arith}
 use lib.ListN.{length, take, drop, set, length-set}
 use lib.Seq.{drop-drop, take-set-le, take-set-lt, drop-set-lt, drop-set-add, set-out}
 use Rattle.rules.specs.Packets.{Packet, Packets, Ascending, put, gathered}
-use Rattle.rules.proofs.Lists.{All, none, also}
+use Rattle.rules.specs.Lists.{All, none, also}
 use Rattle.rules.proofs.Sets.{gathered-same}
 use Rattle.rows.specs.Chunks.{chunks, rowAt, Packed, Held}
 use Rattle.rows.specs.Arrays.{cleared, Written}
