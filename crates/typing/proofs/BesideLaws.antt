@@ -77,7 +77,8 @@ module _ (s marks uses : List ℕ) (st d way : ℕ) (a : BesideAsked s marks use
             (goes ∙ rw (← first-tally, k .0)) (w ∙ rw q) (k .1)
 
         module _ (l : ℕ) (ql : x ≡ On l) where
-          left : (walked s (way + 4) d (tallyOf z n uses) ≡ Going (tallyOf l m1 u1)) × (length m1 ≡ 2) × Kept s (openOf (way + 4)) (tallyOf l m1 u1)
+          left : (walked s (way + 4) d (tallyOf z n uses) ≡ Going (tallyOf l m1 u1)) × (length m1 ≡ 2)
+              × Kept s (openOf (way + 4)) (tallyOf l m1 u1)
           left = told-on s (openOf (way + 4)) l (walked s (way + 4) d (tallyOf z n uses)) x m1 u1 ql t1
 
           -- into the second
@@ -139,8 +140,8 @@ module _ (s marks uses : List ℕ) (st d way : ℕ) (a : BesideAsked s marks use
                     = ap (λ (i : List ℕ). getD i 1 0) ef ∙ getD-set-other m2 0 1 x0 0 (λ q. omega arith) in
                     let k = right .2 in
                     let e : tallyOf j f u2 ≡ met wp wq (tallyOf st marks uses) (tallyOf l m1 u1) (tallyOf r m2 u2)
-                    = same-tally (tallyOf j f u2) (met wp wq (tallyOf st marks uses) (tallyOf l m1 u1) (tallyOf r m2 u2)) (v2 .place) (v2 .parts)
-                    (v2 .tests) (v2 .writes) (f0 ∙ rw eok) f1 refl in
+                    = same-tally (tallyOf j f u2) (met wp wq (tallyOf st marks uses) (tallyOf l m1 u1) (tallyOf r m2 u2)) (v2 .place)
+                    (v2 .parts) (v2 .tests) (v2 .writes) (f0 ∙ rw eok) f1 refl in
                     let kept : Kept s (openOf way) (tallyOf j f u2)
                     = record {
                       start = omega (arith, v2 .place, k .start);

@@ -14,7 +14,8 @@ use Rattle.rules.proofs.ReadingLaws.{body-wrong, body-whole, body-rest}
 use Rattle.rules.proofs.Decoding.{read, read-end}
 use Rattle.typing.specs.declared.Walked.{Walked}
 use Rattle.typing.specs.declared.Walked.the-variants.{On, Off}
-use Rattle.typing.specs.Walking.{Tally, told, Going, Stopped, wayOf, walked, shut, scopeAt, predOf, openOf, placeIn, Kept, BodyAsked, Body, Told, tallyOf}
+use Rattle.typing.specs.Walking.{Tally, told, Going, Stopped, wayOf, walked, shut, scopeAt, predOf, openOf, placeIn, Kept}
+use Rattle.typing.specs.Walking.{BodyAsked, Body, Told, tallyOf}
 use Rattle.typing.proofs.CycleLaws.{told-off, told-on}
 use Rattle.typing.proofs.WalkLaws.{bytes, names}
 
@@ -53,8 +54,10 @@ module _ (s m u : List ℕ) (start way : ℕ) (a : BodyAsked s m u start way) (x
     was =
         let c = scopeAt s way in
         let p = partAt s (shut s) mostDepth (placeIn start) in
-        let g = going-was (readPart s c mostDepth (predOf way) (placeIn start)) (told p (openOf way) (tallyOf start m u)) (tallyOf st n v) (k .0) in
-        let r = read s (bytes s (a .asked .sound) way) c (shut s) (names s (a .asked .sound) way) mostDepth (predOf way) (placeIn start) (g .0) (g .1) in
+        let g = going-was (readPart s c mostDepth (predOf way) (placeIn start)) (told p (openOf way) (tallyOf start m u)) (tallyOf st n v)
+        (k .0) in
+        let r = read s (bytes s (a .asked .sound) way) c (shut s) (names s (a .asked .sound) way) mostDepth (predOf way)
+        (placeIn start) (g .0) (g .1) in
         let e : g .0 ≡ placeIn start + size p = read-end s c (shut s) mostDepth (predOf way) (placeIn start) (g .0) r in
         let f : placeIn start + size p ≡ placeIn st = ap (λ (i : Tally). i .at) (g .2) in
         let h : readPart s c mostDepth (predOf way) (placeIn start) ≡ Next (placeIn st) = g .1 ∙ ap (λ (i : ℕ). Next i) (e ∙ f) in

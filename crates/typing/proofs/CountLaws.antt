@@ -206,7 +206,8 @@ deep-filled e g h n o (Beside wp wq p q) z =
     let a : o + suc (max (deep (filled g p)) (deep (filled g q))) ≡ suc o + max (deep (filled g p)) (deep (filled g q)) = omega arith in
     let b : o + suc (max (deep p) (deep q)) ≡ suc o + max (deep p) (deep q) = omega arith in
     a ∙ two-far (suc o) (deep (filled g p)) (deep (filled g q)) (deep p) (deep q) (far e (suc o) p) (far e (suc o) q)
-    (deep-filled e g h n (suc o) p (z .0)) (deep-filled e g h n (suc o) q (z .1)) ∙ ap (λ (i : ℕ). max i (max (far e (suc o) p) (far e (suc o) q))) (sym b)
+    (deep-filled e g h n (suc o) p (z .0)) (deep-filled e g h n (suc o) q (z .1))
+    ∙ ap (λ (i : ℕ). max i (max (far e (suc o) p) (far e (suc o) q))) (sym b)
 deep-filled e g h n o (Table x r w start p) z = absurd z
 deep-filled e g h n o (Open x r w) z = omega (arith, h x)
 
@@ -218,7 +219,8 @@ module _ (e : ℕ → ℕ) (l : List ℕ) (x o : ℕ) (len : length l ≡ 32) (h
   pub top-other : (y : ℕ) → y < 16 → (y ≡ x → ⊥) → getD (noteUse x o l) (16 + y) 0 ≡ getD l (16 + y) 0
   unfolding noteUse
   top-other y h q =
-      getD-set-other (set l x (getD l x 0 + 1)) (16 + x) (16 + y) (max (getD (set l x (getD l x 0 + 1)) (16 + x) 0) o) 0 (λ z. q (omega arith))
+      getD-set-other (set l x (getD l x 0 + 1)) (16 + x) (16 + y) (max (getD (set l x (getD l x 0 + 1)) (16 + x) 0) o) 0
+      (λ z. q (omega arith))
       ∙ getD-set-other l x (16 + y) (getD l x 0 + 1) 0 (λ z. omega arith)
 
   pub top-same : getD (noteUse x o l) (16 + x) 0 ≡ max (getD l (16 + x) 0) o

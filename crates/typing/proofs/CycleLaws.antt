@@ -15,7 +15,8 @@ use Rattle.rules.specs.Reading.{stands, partAt, built}
 use Rattle.rules.proofs.CodeLaws.{by-code}
 use Rattle.typing.specs.declared.Walked.{Walked}
 use Rattle.typing.specs.declared.Walked.the-variants.{On, Off}
-use Rattle.typing.specs.Walking.{Tally, told, Way, Going, Stopped, wayOf, andOn, walked, shut, predOf, inMain, openOf, Sound, Kept, Asked, Left, Told, tallyOf}
+use Rattle.typing.specs.Walking.{Tally, told, Way, Going, Stopped, wayOf, andOn, walked, shut, predOf, inMain, openOf}
+use Rattle.typing.specs.Walking.{Sound, Kept, Asked, Left, Told, tallyOf}
 use Rattle.typing.specs.Walking.{placeIn, Moved, Apart, Small, wired, Leafed, Noted, leafRead, leafAt, firstOf, mark}
 use Rattle.typing.proofs.TallyLaws.{same-tally, first-none, stepped}
 use Rattle.typing.proofs.WalkLaws.{deeper, leaf-any, walk-short, walk-stop, walk-deep, walk-not, walk-sum, walk-seq}
@@ -39,7 +40,8 @@ told-of s o r (Stopped b) (Off c) m u a l =
     let e : b ≡ c = omega (arith, l .0) in
     rw e (refl, rw e at (l .1))
 
-pub told-off : (s : List ℕ) (o a : ℕ) (w : Way) (x : Walked) (m u : List ℕ) → x ≡ Off a → Told s o w x m u → (w ≡ Stopped a) × (a ≤ length s)
+pub told-off : (s : List ℕ) (o a : ℕ) (w : Way) (x : Walked) (m u : List ℕ) → x ≡ Off a → Told s o w x m u
+    → (w ≡ Stopped a) × (a ≤ length s)
 unfolding Told
 told-off s o a w x m u e h = rw e at h
 
@@ -51,8 +53,8 @@ told-on s o l w x m u e h = rw e at h
 pub off-fits : (s : List ℕ) (o a : ℕ) (w : Way) (x : Walked) (m u : List ℕ) → Sound s → x ≡ Off a → Told s o w x m u → Small x
 off-fits s o a w x m u g e h = let v = told-off s o a w x m u e h in rw e (omega (arith, v .1, g .size))
 
-pub off-left : (s : List ℕ) (o p a r : ℕ) (w v : Way) (x : Walked) (m u : List ℕ) → x ≡ Off a → Told s o w x m u → (w ≡ Stopped a → v ≡ Stopped a)
-    → r ≡ wired x → Left s p v r m u
+pub off-left : (s : List ℕ) (o p a r : ℕ) (w v : Way) (x : Walked) (m u : List ℕ) → x ≡ Off a → Told s o w x m u
+    → (w ≡ Stopped a → v ≡ Stopped a) → r ≡ wired x → Left s p v r m u
 off-left s o p a r w v x m u e h k q =
     let d = told-off s o a w x m u e h in
     stopped-left s p a r v m u (k (d .0)) (q ∙ rw e) (d .1)
@@ -104,7 +106,8 @@ module _ (s : List ℕ) (w st r : ℕ) (m u v : List ℕ) (k : Kept s (openOf w)
   leaf-going (Wrong a) l n = l
   leaf-going (Next e) l n =
       let q = quiet-at s (placeIn st) (placeIn st) z in
-      let f : getD m 0 0 ≡ firstOf (getD m 0 0) (mark (wrongs (placeIn st) (leafAt s (placeIn st)))) = rw (q .0) (sym (first-none (getD m 0 0))) in
+      let f : getD m 0 0 ≡ firstOf (getD m 0 0) (mark (wrongs (placeIn st) (leafAt s (placeIn st))))
+      = rw (q .0) (sym (first-none (getD m 0 0))) in
       let d : getD m 1 0 ≡ max (getD m 1 0) (openOf w + deep (leafAt s (placeIn st))) = omega (arith, q .1, k .deep) in
       let e : tallyOf r m v ≡ told (leafAt s (placeIn st)) (openOf w) (tallyOf st m u)
       = same-tally (tallyOf r m v) (told (leafAt s (placeIn st)) (openOf w) (tallyOf st m u)) (l .0) (l .1) (l .2) (l .3) f d (n .0) in

@@ -25,7 +25,8 @@ use Rattle.typing.specs.declared.Sums.{Sums}
 use Rattle.typing.specs.declared.Summed.{Summed}
 use Rattle.typing.specs.declared.Summed.the-variants.{All, Stop}
 use Rattle.typing.specs.Walking.{firstOf, mark}
-use Rattle.typing.specs.Summing.{wrongsOf, misfitsOf, wrongsFrom, misfitsFrom, totalOf, topOf, Fronted, Cleared, So, Turned, Ends, Ended}
+use Rattle.typing.specs.Summing.{wrongsOf, misfitsOf, wrongsFrom, misfitsFrom, totalOf, topOf, Fronted, Cleared, So}
+use Rattle.typing.specs.Summing.{Turned, Ends, Ended}
 use Rattle.typing.proofs.TallyLaws.{mark-append, first-none}
 use Rattle.typing.proofs.SumLaws.{wrongs-end, misfits-end}
 
@@ -46,7 +47,8 @@ so-ends s z marks uses y q so =
       unfit = sym unfit ∙ rw (misfits-end s) (first-none (z .unfit));
     }
 
-pub so-after : (s : List ℕ) (y : ℕ) (w : Summed) (z : Sums) (marks uses : List ℕ) → w ≡ All z → Turned s y w marks uses → So s (suc y) z marks uses
+pub so-after : (s : List ℕ) (y : ℕ) (w : Summed) (z : Sums) (marks uses : List ℕ) → w ≡ All z → Turned s y w marks uses
+    → So s (suc y) z marks uses
 unfolding Turned
 so-after s y w z marks uses q t = rw q at t
 

@@ -33,7 +33,8 @@ module _ (s : List ℕ) (e : ℕ) (h : firstBody (tablesOf s) ≤ e) where
   shut-names c f m x l u = unpopulated (readsAt f x) (writesAt f x)
 
   -- a part that is read in the front is decoded there as in the book
-  pub front-part : Bytes s → (c : Scope) → c .tables ≡ tablesOf s → (d : ℕ) (pred : Bool) (at a : ℕ) → readPart (take e s) c d pred at ≡ Next a
+  pub front-part : Bytes s → (c : Scope) → c .tables ≡ tablesOf s → (d : ℕ) (pred : Bool) (at a : ℕ)
+      → readPart (take e s) c d pred at ≡ Next a
       → (partAt (take e s) (shut (take e s)) d at ≡ partAt s (shut s) d at) × Fine c (shut s) d pred (partAt s (shut s) d at)
   front-part small c t d pred at a q =
       let f = take e s in

@@ -23,7 +23,8 @@ use Rattle.typing.proofs.TallyLaws.{use-few, use-room}
 use Rattle.typing.specs.declared.Walked.{Walked}
 use Rattle.typing.specs.declared.Walked.the-variants.{Off}
 use Rattle.typing.specs.Walking.{placeIn, testsIn, writesIn, Moved, Masked, Small, wired, WrongWithin, refusedAt}
-use Rattle.typing.specs.Walking.{FieldKnown, TableKnown, Leafed, Noted, noted, noteUse, shut, scopeAt, predOf, inMain, openOf, leafAt, leafRead}
+use Rattle.typing.specs.Walking.{FieldKnown, TableKnown, Leafed, Noted, noted, noteUse, shut, scopeAt, predOf, inMain}
+use Rattle.typing.specs.Walking.{openOf, leafAt, leafRead}
 
 pub off-small : (w : Walked) (a : ℕ) → w ≡ Off a → Small w → a ≤ mostBytes
 off-small w a e h = rw e at h
@@ -159,10 +160,26 @@ pub plain-leaf : (s : List ℕ) (st way code r : ℕ) (u : List ℕ) → code < 
     let ro = readOperands s (operandFits (fieldsOf s) (tablesOf s) code) (operandsOf code) 0 (placeIn st + 1) in
     Leafed s st p ro r × Noted (openOf way) p ro u u
 unfolding built readOperands write parts tested written noted
-plain-leaf s st way zero r u l e h m =
-    ((omega (arith, m .place), omega (arith, m .parts), m .masks .0 ∙ sym (or-zero-r (testsIn st)), m .masks .1 ∙ sym (or-zero-r (writesIn st)), omega arith), (refl, refl, λ n y a b h. omega (arith, h y)))
-plain-leaf s st way (suc zero) r u l e h m =
-    ((omega (arith, m .place), omega (arith, m .parts), m .masks .0 ∙ sym (or-zero-r (testsIn st)), m .masks .1 ∙ sym (or-zero-r (writesIn st)), omega arith), (refl, refl, λ n y a b h. omega (arith, h y)))
+plain-leaf s st way zero r u l e h m = (
+  (
+    omega (arith, m .place),
+    omega (arith, m .parts),
+    m .masks .0 ∙ sym (or-zero-r (testsIn st)),
+    m .masks .1 ∙ sym (or-zero-r (writesIn st)),
+    omega arith,
+  ),
+  (refl, refl, λ n y a b h. omega (arith, h y)),
+)
+plain-leaf s st way (suc zero) r u l e h m = (
+  (
+    omega (arith, m .place),
+    omega (arith, m .parts),
+    m .masks .0 ∙ sym (or-zero-r (testsIn st)),
+    m .masks .1 ∙ sym (or-zero-r (writesIn st)),
+    omega arith,
+  ),
+  (refl, refl, λ n y a b h. omega (arith, h y)),
+)
 plain-leaf s st way (suc (suc c)) r u l e h m = absurd (omega arith)
 
 pub low-parts-none : (c : ℕ) → c < 2 → partsOf c ≡ 0

@@ -85,7 +85,8 @@ zero-or-one (suc (suc n)) l h = absurd (omega arith)
 with-two : (way : ℕ) → way / 2 % 2 ≡ 0 → ((way + 2) / 4 ≡ way / 4) × ((way + 2) / 2 % 2 ≡ 1) × ((way + 2) % 2 ≡ way % 2)
 with-two way z = (omega arith, omega arith, omega arith)
 
-pub not-first : (way : ℕ) → (way / 2 % 2 ≡ 1 → ⊥) → (openOf (way + 2) ≡ openOf way) × (predOf (way + 2) ≡ true) × (inMain (way + 2) ≡ inMain way)
+pub not-first : (way : ℕ) → (way / 2 % 2 ≡ 1 → ⊥)
+    → (openOf (way + 2) ≡ openOf way) × (predOf (way + 2) ≡ true) × (inMain (way + 2) ≡ inMain way)
 not-first way h =
     let w = with-two way (zero-or-one (way / 2 % 2) (omega arith) h) in
     (w .0, eq-eqb ((way + 2) / 2 % 2) 1 (w .1), ap (λ (n : ℕ). eqb n 0) (w .2))
@@ -95,7 +96,9 @@ pub byte-or-small : (a b : ℕ) → a < 256 → b < 256 → bitOr a b < 256
 byte-or-small a b h k = or-lt 8 a b h k
 
 pub join-tests : (st l r : ℕ) → bitOr (testsIn st) (bitOr (testsIn l) (testsIn r)) < 65536
-join-tests st l r = or-small (testsIn st) (bitOr (testsIn l) (testsIn r)) (omega arith) (or-small (testsIn l) (testsIn r) (omega arith) (omega arith))
+join-tests st l r =
+    or-small (testsIn st) (bitOr (testsIn l) (testsIn r)) (omega arith)
+    (or-small (testsIn l) (testsIn r) (omega arith) (omega arith))
 
 pub join-writes : (st wp wq : ℕ) → st < 18446744073709551616 → wp < 256 → wq < 256 → bitOr (writesIn st) (bitOr wp wq) < 65536
 join-writes st wp wq h a b = or-small (writesIn st) (bitOr wp wq) (omega arith) (omega (arith, byte-or-small wp wq a b))

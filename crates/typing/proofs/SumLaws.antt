@@ -120,7 +120,13 @@ module _ (s : List ℕ) (e : bodyStart s 1 ≡ bodyStart s 0 + size (mainOf s)) 
       ≡ firstOf (cond (fits (readsAt s 0) (writesAt s 0) (mainOf s)) 0 (suc (bodyStart s 0))) (misfitsFrom s 1)
   unfolding misfitsOf misfitsFrom policyOf entries misfitsIn misfit bytesOf
   misfits-main =
-      rw (tables-length s (tablesOf s) 1, one-less, e, start-zero s, ← mark-fits (fits (readsAt s 0) (writesAt s 0) (mainOf s)) (firstBody (tablesOf s)))
+      rw (
+        tables-length s (tablesOf s) 1,
+        one-less,
+        e,
+        start-zero s,
+        ← mark-fits (fits (readsAt s 0) (writesAt s 0) (mainOf s)) (firstBody (tablesOf s)),
+      )
       (mark-append (cond (fits (readsAt s 0) (writesAt s 0) (mainOf s)) [] (firstBody (tablesOf s) ∷ []))
       (misfitsIn (firstBody (tablesOf s) + size (mainOf s)) (tablesFrom s (tablesOf s) 1)))
 

@@ -34,7 +34,8 @@ use Rattle.typing.proofs.FillLaws.{Like, fill-like, none-noted, zero-no
 use Rattle.typing.proofs.FrontLaws.{front-scope, front-part, front-asked}
 use Rattle.typing.proofs.TableLaws.{table-part}
 use Rattle.typing.proofs.SizeLaws.{main-parts, main-deep}
-use Rattle.typing.proofs.SumLaws.{starts-up, start-zero, start-next, wrongs-step, misfits-step, misfit-some, misfit-none, wrong-some, wrong-none}
+use Rattle.typing.proofs.SumLaws.{starts-up, start-zero, start-next, wrongs-step, misfits-step, misfit-some, misfit-none}
+use Rattle.typing.proofs.SumLaws.{wrong-some, wrong-none}
 use Rattle.typing.proofs.SumLaws.{wrongs-main, misfits-main, Found, found}
 
 total-one : (e : ℕ → ℕ) (l : List ℕ) → getD l 0 0 ≡ 0 → total e l 1 ≡ 0
@@ -125,7 +126,9 @@ module _ (s : List ℕ) (F : Fronted s) where
           told = found p A st m u n v small tally;
           fine = g .1;
           ends = body-read s (F .bytes) c (useAt s) (names-use c s) A E (length f) (in-book 0 (omega arith)) q .1;
-          count = main-parts s (F .bytes) (F .tables) E h st n v m u (K .room) (K .unmarked 1) (K .unused) (w .0) (w .1) (omega arith) (b .1);
+          count
+              = main-parts s (F .bytes) (F .tables) E h st n v m u (K .room) (K .unmarked 1) (K .unused) (w .0) (w .1) (omega arith)
+              (b .1);
           down = main-deep s (F .bytes) (F .tables) E h st n v m u (K .room) (K .unmarked 1) (K .unused) (w .0) (w .1) (omega arith) (b .1);
           two = b .2;
           room = b .3 .room;
@@ -136,7 +139,8 @@ module _ (s : List ℕ) (F : Fronted s) where
     main-like : Main → Like (mainOf s) p
     unfolding mainOf c p
     main-like g =
-        rw (part-filled s (useAt s) mostDepth (bodyStart s 0)) (fill-like s c mostDepth false (partAt s (shut s) mostDepth (bodyStart s 0)) (g .fine))
+        rw (part-filled s (useAt s) mostDepth (bodyStart s 0))
+        (fill-like s c mostDepth false (partAt s (shut s) mostDepth (bodyStart s 0)) (g .fine))
 
     one-more : (g : Main) → readEntries s (suc (tablesOf s)) 0 ≡ readEntries s (suc (tablesOf s) - 1) 1
     unfolding readEntries readEntry c
@@ -229,7 +233,8 @@ module _ (s : List ℕ) (F : Fronted s) where
         let ws : wrongsFrom s y ≡ wrongsFrom s (suc y)
         = wrongs-step s y hi e ∙ rw (body, wrong-none (bodyStart s y)) in
         let ms : misfitsFrom s y ≡ misfitsFrom s (suc y)
-        = misfits-step s y hi e ∙ rw (body, misfit-none (bodyStart s y) (record { reads = readsAt s y; writes = writesAt s y; body = none })) in
+        = misfits-step s y hi e
+        ∙ rw (body, misfit-none (bodyStart s y) (record { reads = readsAt s y; writes = writesAt s y; body = none })) in
         let t : totalOf s u (suc y) ≡ totalOf s u y
         = total-next (λ x. bodyParts (bodyAt s x)) u y ∙ rw (body, mul-zero (getD u y 0)) (omega arith) in
         let d : topOf s u (suc y) ≡ max (topOf s u y) (cond (eqb (getD u y 0) 0) 0 (getD u (16 + y) 0 + 0))
@@ -268,7 +273,8 @@ module _ (s : List ℕ) (F : Fronted s) where
           → r ≡ readEntry s y
       entry-is r e =
           let at : bodyStart s y + lengthAt s y ≡ bodyStart s (suc y) = sym (start-next s y) in
-          entry-table s y (bodyStart s y) (lengthAt s y) (fieldsOf s) (tablesOf s) r refl refl refl refl not-main (λ q. full (en ∙ q)) (rw at e)
+          entry-table s y (bodyStart s y) (lengthAt s y) (fieldsOf s) (tablesOf s) r refl refl refl refl not-main
+          (λ q. full (en ∙ q)) (rw at e)
 
       moved : Body (take (bodyStart s (suc y)) s) 1 (bodyStart s y) (tallyOf (bodyStart s y) (set m 1 0) u) w i v
       moved = entry-body 1 y hi (z .at) n (so .place) en (set m 1 0) u w i v b
@@ -277,7 +283,8 @@ module _ (s : List ℕ) (F : Fronted s) where
       unfolding Body Turned
       table-off a q =
           let e : Body (take (bodyStart s (suc y)) s) 1 (bodyStart s y) (tallyOf (bodyStart s y) (set m 1 0) u) (Off a) i v
-          = subst (λ (w : Walked). Body (take (bodyStart s (suc y)) s) 1 (bodyStart s y) (tallyOf (bodyStart s y) (set m 1 0) u) w i v) q moved in
+          = subst (λ (w : Walked). Body (take (bodyStart s (suc y)) s) 1 (bodyStart s y) (tallyOf (bodyStart s y) (set m 1 0) u) w i v) q
+          moved in
           let r : readBody (take (bodyStart s (suc y)) s) (scopeOf (fieldsOf s) (tablesOf s) false) (bodyStart s y) ≡ Wrong a
           = rw (front-scope s (bodyStart s (suc y)) (above (suc y)) 1) at e in
           so .form ∙ entries-stop s (suc (tablesOf s)) y (Wrong a) (omega arith) (entry-is (Wrong a) (sym r)) a refl
@@ -325,7 +332,8 @@ module _ (s : List ℕ) (F : Fronted s) where
         one-so : One → (x : Sums) → x .at ≡ bodyStart s (suc y) → x .parts ≡ z .parts + getD v y 0 * partsIn st
             → x .parts ≤ z .parts + 4294967296
             → x .deep ≡ max (z .deep) (cond (eqb (getD v y 0) 0) 0 (getD v (16 + y) 0 + getD i 1 0))
-            → x .unfit ≡ firstOf (z .unfit) (cond (fitMasks (readsAt s y) (writesAt s y) (testsIn st) (writesIn st)) 0 (suc (bodyStart s y)))
+            → x .unfit
+            ≡ firstOf (z .unfit) (cond (fitMasks (readsAt s y) (writesAt s y) (testsIn st) (writesIn st)) 0 (suc (bodyStart s y)))
             → So s (suc y) x i v
         one-so g x xa xp xs xd xu =
             let t = g .told in
@@ -342,7 +350,8 @@ module _ (s : List ℕ) (F : Fronted s) where
             let ws : wrongsFrom s y ≡ firstOf (mark (wrongs A P)) (wrongsFrom s (suc y))
             = wrongs-step s y hi (g .ends) ∙ rw (g .body, wrong-some A P) in
             let ms : misfitsFrom s y ≡ firstOf (cond (fits (readsAt s y) (writesAt s y) P) 0 (suc A)) (misfitsFrom s (suc y))
-            = misfits-step s y hi (g .ends) ∙ rw (g .body, misfit-some A (record { reads = readsAt s y; writes = writesAt s y; body = some P }) P) in
+            = misfits-step s y hi (g .ends)
+            ∙ rw (g .body, misfit-some A (record { reads = readsAt s y; writes = writesAt s y; body = some P }) P) in
             let sp : z .parts ≡ so .own + totalOf s v y = rw (g .same) (so .count) in
             let sd : z .deep ≡ max (so .ownDeep) (topOf s v y) = rw (g .same) (so .down) in
             record {

@@ -12,7 +12,8 @@ use Rattle.rules.specs.declared.Reading.the-variants.{Next, Wrong}
 use Rattle.rules.specs.Codes.{operandsOf, partsOf}
 use Rattle.rules.specs.Parts.{Part, Id, Not, Sum, Seq, Beside, size}
 use Rattle.rules.specs.Books.{Scope, Bytes}
-use Rattle.rules.specs.Reading.{andThen, stands, readTimes, readOperands, operandFits, readPart, after, partAt, built, below, fieldsOf, tablesOf, readsAt, writesAt}
+use Rattle.rules.specs.Reading.{andThen, stands, readTimes, readOperands, operandFits, readPart, after, partAt, built, below}
+use Rattle.rules.specs.Reading.{fieldsOf, tablesOf, readsAt, writesAt}
 use Rattle.rules.proofs.ReadingLaws.{byte-short, byte-next, part-wrong, part-deep, then-next, stands-known, stands-37}
 use Rattle.rules.proofs.Decoding.{unpopulated, Names, read, read-end}
 use Rattle.rules.proofs.CodeLaws.{by-code}
@@ -237,7 +238,8 @@ module _ (s : List ℕ) (sound : Sound s) (way : ℕ) where
       all : Tally
       all = met wp wq t l (told q (suc o) (bared l))
 
-      second : (m : ℕ) (r : Reading) → wayOf (andThen r (λ x. Next x)) all ≡ andOn (wayOf r (told q (suc o) (bared l))) (λ u. Going (met wp wq t l u))
+      second : (m : ℕ) (r : Reading)
+          → wayOf (andThen r (λ x. Next x)) all ≡ andOn (wayOf r (told q (suc o) (bared l))) (λ u. Going (met wp wq t l u))
       second m (Wrong a) = refl
       second m (Next a) = refl
 

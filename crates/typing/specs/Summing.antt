@@ -9,7 +9,8 @@ use lib.ListN.{length, getD}
 use Rattle.rules.specs.declared.Reading.the-variants.{Next, Wrong}
 use Rattle.rules.specs.Parts.{Part, parts, deep}
 use Rattle.rules.specs.Books.{mostFields, mostTables, mostBytes, firstBody, entries}
-use Rattle.rules.specs.Reading.{fieldsOf, tablesOf, bodyStart, masksRight, readEntries, bodyAt, mainOf, tablesFrom, policyOf, wrongsIn, misfitsIn}
+use Rattle.rules.specs.Reading.{fieldsOf, tablesOf, bodyStart, masksRight, readEntries, bodyAt, mainOf, tablesFrom, policyOf}
+use Rattle.rules.specs.Reading.{wrongsIn, misfitsIn}
 use Rattle.typing.specs.declared.Sums.{Sums}
 use Rattle.typing.specs.declared.Summed.{Summed}
 use Rattle.typing.specs.declared.Summed.the-variants.{All, Stop}

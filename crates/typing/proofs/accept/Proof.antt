@@ -8,26 +8,78 @@ use Rattle.typing.proofs.accept.Statement.{statement}
 use Rattle.typing.proofs.accept.Tie as tie
 
 returns : tie.Need-returns
-returns c = accept-answer (rw (c .no-place .ensures) (test-1 _ _ (c .before .before .length-right .ensures) (c .before .if1 .taken)))
+returns c =
+    let at-length-right = c .before .before in
+    accept-answer (rw (c .no-place .ensures) (test-1 _ _ (at-length-right .length-right .ensures) (c .before .if1 .taken)))
 
 returns-2 : tie.Need-returns-2
 returns-2 c =
-    accept-answer (rw (c .no-place2 .ensures) (test-2 _ _ (c .before .before .before .before .before .before .length-right .ensures) (c .before .before .before .before .before .if1 .left) _ _ _ (c .before .before .before .byte-at2 .ensures) (c .before .before .before .before .byte-at .ensures) (c .before .before .counts-right .ensures) (c .before .if2 .taken)))
+    let at-counts-right = c .before .before in
+    let at-byte-at2 = at-counts-right .before in
+    let at-byte-at = at-byte-at2 .before in
+    let at-if1 = at-byte-at .before in
+    let at-length-right = at-if1 .before in
+    accept-answer
+    (rw (c .no-place2 .ensures)
+    (test-2 _ _ (at-length-right .length-right .ensures) (at-if1 .if1 .left) _ _ _ (at-byte-at2 .byte-at2 .ensures)
+    (at-byte-at .byte-at .ensures) (at-counts-right .counts-right .ensures) (c .before .if2 .taken)))
 
 add-body-start : tie.Need-add-body-start
-add-body-start c = omega (arith, few-tables (c .before .before .byte-at2 .result) (c .before .before .before .byte-at .result) _ (c .before .counts-right .ensures) (c .if2 .left))
+add-body-start c =
+    let at-byte-at2 = c .before .before in
+    let at-byte-at = at-byte-at2 .before in
+    omega (
+      arith,
+      few-tables (at-byte-at2 .byte-at2 .result) (at-byte-at .byte-at .result) _ (c .before .counts-right .ensures) (c .if2 .left),
+    )
 
 returns-3 : tie.Need-returns-3
 returns-3 c =
-    accept-answer (rw (c .no-place3 .ensures) (test-3 _ _ (c .before .before .before .before .before .before .before .before .length-right .ensures) (c .before .before .before .before .before .before .before .if1 .left) _ _ _ (c .before .before .before .before .before .byte-at2 .ensures) (c .before .before .before .before .before .before .byte-at .ensures) (c .before .before .before .before .counts-right .ensures) (c .before .before .before .if2 .left) _ (c .before .before .body-start .ensures .0) (c .before .if3 .taken)))
+    let at-body-start = c .before .before in
+    let at-if2 = at-body-start .before in
+    let at-counts-right = at-if2 .before in
+    let at-byte-at2 = at-counts-right .before in
+    let at-byte-at = at-byte-at2 .before in
+    let at-if1 = at-byte-at .before in
+    let at-length-right = at-if1 .before in
+    accept-answer
+    (rw (c .no-place3 .ensures)
+    (test-3 _ _ (at-length-right .length-right .ensures) (at-if1 .if1 .left) _ _ _ (at-byte-at2 .byte-at2 .ensures)
+    (at-byte-at .byte-at .ensures) (at-counts-right .counts-right .ensures) (at-if2 .if2 .left) _
+    (at-body-start .body-start .ensures .0) (c .before .if3 .taken)))
 
 returns-4 : tie.Need-returns-4
 returns-4 c =
-    accept-answer (rw (c .no-place4 .ensures) (test-4 _ _ (c .before .before .before .before .before .before .before .before .before .before .length-right .ensures) (c .before .before .before .before .before .before .before .before .before .if1 .left) _ _ _ (c .before .before .before .before .before .before .before .byte-at2 .ensures) (c .before .before .before .before .before .before .before .before .byte-at .ensures) (c .before .before .before .before .before .before .counts-right .ensures) (c .before .before .before .before .before .if2 .left) _ (c .before .before .before .before .body-start .ensures .0) (c .before .before .before .if3 .left) _ (c .before .before .masks-right .ensures) (c .before .if4 .taken)))
+    let at-masks-right = c .before .before in
+    let at-if3 = at-masks-right .before in
+    let at-body-start = at-if3 .before in
+    let at-if2 = at-body-start .before in
+    let at-counts-right = at-if2 .before in
+    let at-byte-at2 = at-counts-right .before in
+    let at-byte-at = at-byte-at2 .before in
+    let at-if1 = at-byte-at .before in
+    let at-length-right = at-if1 .before in
+    accept-answer
+    (rw (c .no-place4 .ensures)
+    (test-4 _ _ (at-length-right .length-right .ensures) (at-if1 .if1 .left) _ _ _ (at-byte-at2 .byte-at2 .ensures)
+    (at-byte-at .byte-at .ensures) (at-counts-right .counts-right .ensures) (at-if2 .if2 .left) _
+    (at-body-start .body-start .ensures .0) (at-if3 .if3 .left) _ (at-masks-right .masks-right .ensures) (c .before .if4 .taken)))
 
 bodies-requires : tie.Need-bodies-requires
 bodies-requires c κs =
-    fronted _ _ (c .before .before .before .before .before .before .before .before .before .length-right .ensures) (c .before .before .before .before .before .before .before .before .if1 .left) _ _ _ (c .before .before .before .before .before .before .byte-at2 .ensures) (c .before .before .before .before .before .before .before .byte-at .ensures) (c .before .before .before .before .before .counts-right .ensures) (c .before .before .before .before .if2 .left) _ (c .before .before .before .body-start .ensures .0) (c .before .before .if3 .left) _ (c .before .masks-right .ensures) (c .if4 .left) (λ i. c .before .before .before .before .before .before .before .before .before .before .shared-slice-known .given i .fits)
+    let at-if3 = c .before .before in
+    let at-body-start = at-if3 .before in
+    let at-if2 = at-body-start .before in
+    let at-counts-right = at-if2 .before in
+    let at-byte-at2 = at-counts-right .before in
+    let at-byte-at = at-byte-at2 .before in
+    let at-if1 = at-byte-at .before in
+    let at-length-right = at-if1 .before in
+    let start = at-length-right .before in
+    fronted _ _ (at-length-right .length-right .ensures) (at-if1 .if1 .left) _ _ _ (at-byte-at2 .byte-at2 .ensures)
+    (at-byte-at .byte-at .ensures) (at-counts-right .counts-right .ensures) (at-if2 .if2 .left) _
+    (at-body-start .body-start .ensures .0) (at-if3 .if3 .left) _ (c .before .masks-right .ensures) (c .if4 .left)
+    (λ i. start .shared-slice-known .given i .fits)
 
 returns-5 : tie.Need-returns-5
 returns-5 c = accept-answer (c .bodies .ensures)

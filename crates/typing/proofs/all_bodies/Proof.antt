@@ -16,44 +16,47 @@ Inv-loop book marks₀ uses₀ m z₀ y₀ marks uses z y = (m ≡ tablesOf book
 abbrev μ-loop : tie.MeasureT-loop
 μ-loop book marks₀ uses₀ m z₀ y₀ marks uses z y = suc m - y
 
-byte-at-requires : tie.Need-byte-at-requires Inv-loop μ-loop
-byte-at-requires c κs = search needs
-
-main-body-requires : tie.Need-main-body-requires Inv-loop μ-loop
-main-body-requires c κs = search needs
-
-enum-known-main : tie.Need-enum-known-main Inv-loop μ-loop
-enum-known-main c = search needs
-
-enum-told : tie.Need-enum-told Inv-loop μ-loop
-enum-told c = search needs
-
 returns : tie.Need-returns Inv-loop μ-loop
-returns c = off-after _ 0 _ _ _ _ (c .enum-told .given .1) (c .before .before .main-body .ensures)
+returns c =
+    let at-main-body = c .before .before in
+    off-after _ 0 _ _ _ _ (c .enum-told .given .1) (at-main-body .main-body .ensures)
 
 loop-holds : tie.Need-loop-holds Inv-loop μ-loop
-loop-holds c = (c .before .before .before .before .before .before .byte-at .ensures, omega arith, omega arith, so-after _ 0 _ _ _ _ (c .before .main .given .1) (c .before .before .before .main-body .ensures))
+loop-holds c =
+    let at-main-body = c .before .before .before in
+    let at-byte-at = at-main-body .before .before .before in (
+      at-byte-at .byte-at .ensures,
+      omega arith,
+      omega arith,
+      so-after _ 0 _ _ _ _ (c .before .main .given .1) (at-main-body .main-body .ensures),
+    )
 
 table-body-requires : tie.Need-table-body-requires Inv-loop μ-loop
-table-body-requires c κs = ((c .before .before .before .before .before .before .before .before .before .before .before .before .pre .0), c .before .before .before .loop .inv .3, c .before .before .before .loop .inv .1, omega (arith, c .before .before .before .loop .inv .0))
-
-enum-known-body : tie.Need-enum-known-body Inv-loop μ-loop
-enum-known-body c = search needs
-
-enum-told-2 : tie.Need-enum-told-2 Inv-loop μ-loop
-enum-told-2 c = search needs
+table-body-requires c κs =
+    let at-loop = c .before .before .before in
+    let start = at-loop .before .before .before .before .before .before .before .before .before in
+    (start .pre .0, at-loop .loop .inv .3, at-loop .loop .inv .1, omega (arith, at-loop .loop .inv .0))
 
 returns-2 : tie.Need-returns-2 Inv-loop μ-loop
-returns-2 c = off-after _ _ _ _ _ _ (c .enum-told2 .given .1) (c .before .before .table-body .ensures)
+returns-2 c =
+    let at-table-body = c .before .before in
+    off-after _ _ _ _ _ _ (c .enum-told2 .given .1) (at-table-body .table-body .ensures)
 
 add-y : tie.Need-add-y Inv-loop μ-loop
-add-y c = omega (arith, c .before .before .before .before .before .before .before .loop .inv .0, (c .before .before .before .before .before .before .before .before .before .before .before .before .before .before .before .before .pre .0) .tables)
-
-loop-less : tie.Need-loop-less Inv-loop μ-loop
-loop-less c = search needs
+add-y c =
+    let at-loop = c .before .before .before .before .before .before .before in
+    let start = at-loop .before .before .before .before .before .before .before .before .before in
+    omega (arith, at-loop .loop .inv .0, start .pre .0 .tables)
 
 loop-again : tie.Need-loop-again Inv-loop μ-loop
-loop-again c = (c .before .before .before .before .before .before .before .loop .inv .0, omega arith, omega arith, rw add-one (so-after _ _ _ _ _ _ (c .before .body .given .1) (c .before .before .before .table-body .ensures)))
+loop-again c =
+    let at-table-body = c .before .before .before in
+    let at-loop = at-table-body .before .before .before .before in (
+      at-loop .loop .inv .0,
+      omega arith,
+      omega arith,
+      rw add-one (so-after _ _ _ _ _ _ (c .before .body .given .1) (at-table-body .table-body .ensures)),
+    )
 
 returns-3 : tie.Need-returns-3 Inv-loop μ-loop
 returns-3 c = so-ends _ _ _ _ _ (omega (arith, c .before .loop .inv .0)) (c .before .loop .inv .3)
@@ -64,17 +67,17 @@ all-bodies-spec =
     (tie.spec
     Inv-loop
     μ-loop
-    byte-at-requires
-    main-body-requires
-    enum-known-main
-    enum-told
+    (λ c κs. search needs)
+    (λ c κs. search needs)
+    (λ c. search needs)
+    (λ c. search needs)
     returns
     loop-holds
     table-body-requires
-    enum-known-body
-    enum-told-2
+    (λ c. search needs)
+    (λ c. search needs)
     returns-2
     add-y
-    loop-less
+    (λ c. search needs)
     loop-again
     returns-3)

@@ -5,38 +5,32 @@ use Rattle.typing.proofs.bodies.Statement.{statement}
 use Rattle.typing.proofs.bodies.Tie as tie
 
 all-bodies-requires : tie.Need-all-bodies-requires
-all-bodies-requires c κs = ((c .before .before .before .pre), cleared)
-
-enum-known-all : tie.Need-enum-known-all
-enum-known-all c = search needs
-
-array-read-wide : tie.Need-array-read-wide
-array-read-wide c = search needs
-
-wide-requires : tie.Need-wide-requires
-wide-requires c κs = search needs
+all-bodies-requires c κs =
+    let start = c .before .before .before in
+    (start .pre, cleared)
 
 sentence-requires : tie.Need-sentence-requires
-sentence-requires c κs = ((c .before .before .before .before .before .before .before .before .pre), rw (c .wide .ensures) (ended-all _ _ _ _ (c .before .before .all .given .1) (c .before .before .before .before .all-bodies .ensures)))
-
-enum-known-all-2 : tie.Need-enum-known-all-2
-enum-known-all-2 c = search needs
-
-returns : tie.Need-returns
-returns c = search needs
+sentence-requires c κs =
+    let at-all = c .before .before in
+    let at-all-bodies = at-all .before .before in
+    let start = at-all-bodies .before .before .before .before in
+    (start .pre, rw (c .wide .ensures) (ended-all _ _ _ _ (at-all .all .given .1) (at-all-bodies .all-bodies .ensures)))
 
 returns-2 : tie.Need-returns-2
-returns-2 c = form-refused _ (c .before .before .before .before .before .before .before .pre) _ (ended-off _ _ _ _ (c .before .all2 .given .1) (c .before .before .before .all-bodies .ensures))
+returns-2 c =
+    let at-all-bodies = c .before .before .before in
+    let start = at-all-bodies .before .before .before .before in
+    form-refused _ (start .pre) _ (ended-off _ _ _ _ (c .before .all2 .given .1) (at-all-bodies .all-bodies .ensures))
 
 pub bodies-spec : {M : Type 1} → statement M
 bodies-spec =
     tie.close
     (tie.spec
     all-bodies-requires
-    enum-known-all
-    array-read-wide
-    wide-requires
+    (λ c. search needs)
+    (λ c. search needs)
+    (λ c κs. search needs)
     sentence-requires
-    enum-known-all-2
-    returns
+    (λ c. search needs)
+    (λ c. search needs)
     returns-2)

@@ -11,7 +11,9 @@ returns-2 : tie.Need-returns-2
 returns-2 c = unfit-own _ _ _ (c .before .if1 .left) (c .if2 .taken)
 
 returns-3 : tie.Need-returns-3
-returns-3 c = unfit-old _ (c .before .before .args .at) (c .before .before .args .fits) (c .if2 .left)
+returns-3 c =
+    let start = c .before .before in
+    unfit-old _ (start .args .at) (start .args .fits) (c .if2 .left)
 
 pub first-unfit-spec : {M : Type 1} → statement M
 first-unfit-spec = tie.close (tie.spec returns (λ c. search needs) returns-2 returns-3)

@@ -7,70 +7,61 @@ use borrow.Author.Needs.{needs}
 use Rattle.typing.proofs.main_body.Statement.{statement}
 use Rattle.typing.proofs.main_body.Tie as tie
 
-body-start-requires : tie.Need-body-start-requires
-body-start-requires c κs = search needs
-
-length-of-requires : tie.Need-length-of-requires
-length-of-requires c κs = search needs
-
-add-end : tie.Need-add-end
-add-end c = search needs
-
 slice-aggregate-whole : tie.Need-slice-aggregate-whole
-slice-aggregate-whole c = sym (length-take-le _ _ (end-in _ (c .before .before .before .before .pre .0) 0 0 (omega arith) _ _ (c .before .before .body-start .ensures .0) (c .before .length-of .ensures .0)))
+slice-aggregate-whole c =
+    let at-body-start = c .before .before in
+    let start = at-body-start .before .before in
+    sym
+    (length-take-le _ _
+    (end-in _ (start .pre .0) 0 0 (omega arith) _ _ (at-body-start .body-start .ensures .0) (c .before .length-of .ensures .0)))
 
 whole-requires : tie.Need-whole-requires
 whole-requires c κs =
-    entry-asked _ (c .before .before .before .before .before .before .pre .0) 0 0 (omega arith) _ _ (c .before .before .before .before .body-start .ensures .0) (c .before .before .before .length-of .ensures .0) (omega arith) _ _ ((c .before .before .before .before .before .before .pre .1) .two) ((c .before .before .before .before .before .before .pre .1) .room) (λ x. omega (arith, (c .before .before .before .before .before .before .pre .1) .unused x))
-
-enum-known-body : tie.Need-enum-known-body
-enum-known-body c = search needs
-
-reads-of-requires : tie.Need-reads-of-requires
-reads-of-requires c κs = search needs
-
-writes-of-requires : tie.Need-writes-of-requires
-writes-of-requires c κs = search needs
-
-fit-state-requires : tie.Need-fit-state-requires
-fit-state-requires c κs = search needs
-
-element-copy-out-wide : tie.Need-element-copy-out-wide
-element-copy-out-wide c = search needs
-
-wide-requires : tie.Need-wide-requires
-wide-requires c κs = search needs
-
-first-unfit-requires : tie.Need-first-unfit-requires
-first-unfit-requires c κs = search needs
-
-enum-known-body-2 : tie.Need-enum-known-body-2
-enum-known-body-2 c = search needs
+    let at-length-of = c .before .before .before in
+    let at-body-start = at-length-of .before in
+    let start = at-body-start .before .before in
+    entry-asked _ (start .pre .0) 0 0 (omega arith) _ _ (at-body-start .body-start .ensures .0) (at-length-of .length-of .ensures .0)
+    (omega arith) _ _ (start .pre .1 .two) (start .pre .1 .room) (λ x. omega (arith, start .pre .1 .unused x))
 
 returns : tie.Need-returns
 returns c =
-    main-on _ (c .before .before .before .before .before .before .before .before .before .before .before .before .before .before .before .before .pre .0) _ _ (c .before .before .before .before .before .before .before .before .before .before .before .before .before .before .body-start .ensures .0) (c .before .before .before .before .before .before .before .before .before .before .before .before .before .length-of .ensures .0) _ _ (c .before .before .before .before .before .before .before .before .before .before .before .before .before .before .before .before .pre .1) _ _ _ (c .before .before .before .before .before .before .before .before .before .whole .ensures) _ (c .before .before .before .before .before .before .before .body .given .1) _ _ _ (c .before .before .before .before .before .reads-of .ensures) (c .before .before .before .before .writes-of .ensures)
-    (c .before .before .before .fit-state .ensures) _ refl refl (c .before .wide .ensures) (c .first-unfit .ensures)
+    let at-fit-state = c .before .before .before in
+    let at-writes-of = at-fit-state .before in
+    let at-reads-of = at-writes-of .before in
+    let at-body = at-reads-of .before .before in
+    let at-whole = at-body .before .before in
+    let at-length-of = at-whole .before .before .before .before in
+    let at-body-start = at-length-of .before in
+    let start = at-body-start .before .before in
+    main-on _ (start .pre .0) _ _ (at-body-start .body-start .ensures .0) (at-length-of .length-of .ensures .0) _ _ (start .pre .1) _ _
+    _ (at-whole .whole .ensures) _ (at-body .body .given .1) _ _ _ (at-reads-of .reads-of .ensures) (at-writes-of .writes-of .ensures)
+    (at-fit-state .fit-state .ensures) _ refl refl (c .before .wide .ensures) (c .first-unfit .ensures)
 
 returns-2 : tie.Need-returns-2
-returns-2 c = main-off _ (c .before .before .before .before .before .before .before .before .before .before .pre .0) _ _ (c .before .before .before .before .before .before .before .before .body-start .ensures .0) (c .before .before .before .before .before .before .before .length-of .ensures .0) _ _ (c .before .before .before .before .before .before .before .before .before .before .pre .1) _ _ _ (c .before .before .before .whole .ensures) _ (c .before .body2 .given .1)
+returns-2 c =
+    let at-whole = c .before .before .before in
+    let at-length-of = at-whole .before .before .before .before in
+    let at-body-start = at-length-of .before in
+    let start = at-body-start .before .before in
+    main-off _ (start .pre .0) _ _ (at-body-start .body-start .ensures .0) (at-length-of .length-of .ensures .0) _ _ (start .pre .1) _ _
+    _ (at-whole .whole .ensures) _ (c .before .body2 .given .1)
 
 pub main-body-spec : {M : Type 1} → statement M
 main-body-spec =
     tie.close
     (tie.spec
-    body-start-requires
-    length-of-requires
-    add-end
+    (λ c κs. search needs)
+    (λ c κs. search needs)
+    (λ c. search needs)
     slice-aggregate-whole
     whole-requires
-    enum-known-body
-    reads-of-requires
-    writes-of-requires
-    fit-state-requires
-    element-copy-out-wide
-    wide-requires
-    first-unfit-requires
-    enum-known-body-2
+    (λ c. search needs)
+    (λ c κs. search needs)
+    (λ c κs. search needs)
+    (λ c κs. search needs)
+    (λ c. search needs)
+    (λ c κs. search needs)
+    (λ c κs. search needs)
+    (λ c. search needs)
     returns
     returns-2)

@@ -6,12 +6,6 @@ use borrow.Author.Needs.{needs}
 use Rattle.typing.proofs.past.Statement.{statement}
 use Rattle.typing.proofs.past.Tie as tie
 
-shape-of-requires : tie.Need-shape-of-requires
-shape-of-requires c κs = search needs
-
-add-result : tie.Need-add-result
-add-result c = search needs
-
 add-result-2 : tie.Need-add-result-2
 add-result-2 c = omega (arith, few-operands (c .before .args .code) (c .shape-of .result) (c .shape-of .ensures))
 
@@ -22,4 +16,4 @@ returns c =
     rw (← f .0) (moved _ _ _ (f .1) (pre .0) (pre .1) refl)
 
 pub past-spec : {M : Type 1} → statement M
-past-spec = tie.close (tie.spec shape-of-requires add-result add-result-2 returns)
+past-spec = tie.close (tie.spec (λ c κs. search needs) (λ c. search needs) add-result-2 returns)

@@ -5,20 +5,39 @@ use Rattle.typing.proofs.sentence.Statement.{statement}
 use Rattle.typing.proofs.sentence.Tie as tie
 
 returns : tie.Need-returns
-returns c = rw (c .no-place .ensures) (many-parts _ (c .before .before .before .before .pre .0) _ _ (c .before .before .before .before .pre .1) (c .before .if1 .taken))
+returns c =
+    let start = c .before .before .before .before in
+    rw (c .no-place .ensures) (many-parts _ (start .pre .0) _ _ (start .pre .1) (c .before .if1 .taken))
 
 returns-2 : tie.Need-returns-2
-returns-2 c = rw (c .no-place2 .ensures) (too-deep _ (c .before .before .before .before .before .before .pre .0) _ _ (c .before .before .before .before .before .before .pre .1) (c .before .before .before .if1 .left) (c .before .if2 .taken))
+returns-2 c =
+    let at-if1 = c .before .before .before in
+    let start = at-if1 .before .before .before in
+    rw (c .no-place2 .ensures) (too-deep _ (start .pre .0) _ _ (start .pre .1) (at-if1 .if1 .left) (c .before .if2 .taken))
 
 returns-3 : tie.Need-returns-3
-returns-3 c = wrong-part _ (c .before .before .before .before .before .before .pre .0) _ _ (c .before .before .before .before .before .before .pre .1) (c .before .before .before .if1 .left) (c .before .if2 .left) (c .if3 .taken)
+returns-3 c =
+    let at-if1 = c .before .before .before in
+    let start = at-if1 .before .before .before in
+    wrong-part _ (start .pre .0) _ _ (start .pre .1) (at-if1 .if1 .left) (c .before .if2 .left) (c .if3 .taken)
 
 returns-4 : tie.Need-returns-4
-returns-4 c = wrong-body _ (c .before .before .before .before .before .before .before .before .before .pre .0) _ _ (c .before .before .before .before .before .before .before .before .before .pre .1) (c .before .before .before .before .before .before .if1 .left) (c .before .before .before .before .if2 .left) (c .before .before .before .if3 .left) (c .before .if4 .taken)
+returns-4 c =
+    let at-if3 = c .before .before .before in
+    let at-if2 = at-if3 .before in
+    let at-if1 = at-if2 .before .before in
+    let start = at-if1 .before .before .before in
+    wrong-body _ (start .pre .0) _ _ (start .pre .1) (at-if1 .if1 .left) (at-if2 .if2 .left) (at-if3 .if3 .left) (c .before .if4 .taken)
 
 returns-5 : tie.Need-returns-5
 returns-5 c =
-    accepted _ (c .before .before .before .before .before .before .before .before .before .before .pre .0) _ _ (c .before .before .before .before .before .before .before .before .before .before .pre .1) (c .before .before .before .before .before .before .before .if1 .left) (c .before .before .before .before .before .if2 .left) (c .before .before .before .before .if3 .left) (c .before .before .if4 .left) _ _ (c .before .byte-at .ensures) (c .byte-at2 .ensures)
+    let at-if4 = c .before .before in
+    let at-if3 = at-if4 .before .before in
+    let at-if2 = at-if3 .before in
+    let at-if1 = at-if2 .before .before in
+    let start = at-if1 .before .before .before in
+    accepted _ (start .pre .0) _ _ (start .pre .1) (at-if1 .if1 .left) (at-if2 .if2 .left) (at-if3 .if3 .left) (at-if4 .if4 .left) _ _
+    (c .before .byte-at .ensures) (c .byte-at2 .ensures)
 
 pub sentence-spec : {M : Type 1} → statement M
 sentence-spec =

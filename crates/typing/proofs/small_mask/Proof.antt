@@ -6,11 +6,8 @@ use borrow.Author.Needs.{needs}
 use Rattle.typing.proofs.small_mask.Statement.{statement}
 use Rattle.typing.proofs.small_mask.Tie as tie
 
-shl-result : tie.Need-shl-result
-shl-result c = search needs
-
 returns : tie.Need-returns
 returns c = ap (ltb (c .args .b)) (low-bit _ (c .pre))
 
 pub small-mask-spec : {M : Type 1} → statement M
-small-mask-spec = tie.close (tie.spec shl-result returns)
+small-mask-spec = tie.close (tie.spec (λ c. search needs) returns)

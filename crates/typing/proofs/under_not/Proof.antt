@@ -4,9 +4,6 @@ use borrow.Author.Needs.{needs}
 use Rattle.typing.proofs.under_not.Statement.{statement}
 use Rattle.typing.proofs.under_not.Tie as tie
 
-add-result : tie.Need-add-result
-add-result c = search needs
-
 returns : tie.Need-returns
 returns c = not-again _ (c .if1 .taken)
 
@@ -14,4 +11,4 @@ returns-2 : tie.Need-returns-2
 returns-2 c = not-first _ (c .if1 .left)
 
 pub under-not-spec : {M : Type 1} → statement M
-under-not-spec = tie.close (tie.spec add-result returns returns-2)
+under-not-spec = tie.close (tie.spec (λ c. search needs) returns returns-2)

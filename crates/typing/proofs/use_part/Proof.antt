@@ -9,78 +9,85 @@ use borrow.Author.Needs.{needs}
 use Rattle.typing.proofs.use_part.Statement.{statement}
 use Rattle.typing.proofs.use_part.Tie as tie
 
-table-operand-requires : tie.Need-table-operand-requires
-table-operand-requires c κs = search needs
-
-enum-known-ops : tie.Need-enum-known-ops
-enum-known-ops c = search needs
-
-enum-told : tie.Need-enum-told
-enum-told c = search needs
-
 refused-requires : tie.Need-refused-requires
 refused-requires c κs =
-    wrong-within _ TableKnown _ _ _ (λ b h. h) (c .before .before .before .before .pre .sound .size) (c .enum-told .given .1) (c .before .before .table-operand .ensures .1)
+    let at-table-operand = c .before .before in
+    let start = at-table-operand .before .before in
+    wrong-within _ TableKnown _ _ _ (λ b h. h) (start .pre .sound .size) (c .enum-told .given .1)
+    (at-table-operand .table-operand .ensures .1)
 
 returns : tie.Need-returns
-returns c = (
-  leafed-wrong _ TableKnown _ _ _ _ _ _ _ (λ b h. h) (c .before .before .before .table-operand .ensures .0) (c .before .enum-told .given .1)
-      (c .before .before .before .table-operand .ensures .1) (c .refused .ensures),
-  wrong-noted (c .before .before .before .before .before .args .s .now) _ _ _ _ _ _ _ (c .before .before .before .table-operand .ensures .0) (c .before .enum-told .given .1),
-)
-
-add-x : tie.Need-add-x
-add-x c = search needs
+returns c =
+    let at-table-operand = c .before .before .before in
+    let start = at-table-operand .before .before in (
+      leafed-wrong _ TableKnown _ _ _ _ _ _ _ (λ b h. h) (at-table-operand .table-operand .ensures .0) (c .before .enum-told .given .1)
+          (at-table-operand .table-operand .ensures .1) (c .refused .ensures),
+      wrong-noted (start .args .s .now) _ _ _ _ _ _ _ (at-table-operand .table-operand .ensures .0) (c .before .enum-told .given .1),
+    )
 
 shared-slice-read-x : tie.Need-shared-slice-read-x
 shared-slice-read-x c =
-    omega (arith, table-known _ _ _ _ (c .before .before .ops .given .1) (c .before .before .before .before .table-operand .ensures .1))
+    let at-ops = c .before .before in
+    let at-table-operand = at-ops .before .before in
+    omega (arith, table-known _ _ _ _ (at-ops .ops .given .1) (at-table-operand .table-operand .ensures .1))
 
 cast-x : tie.Need-cast-x
 cast-x c =
-    omega (arith, c .before .before .before .before .before .before .pre .sound .bytes (c .before .before .before .before .before .before .args .st % 65536 + 1))
-
-level-of-requires : tie.Need-level-of-requires
-level-of-requires c κs = search needs
+    let start = c .before .before .before .before .before .before in
+    omega (arith, start .pre .sound .bytes (start .args .st % 65536 + 1))
 
 note-use-requires : tie.Need-note-use-requires
 note-use-requires c κs =
-    let a = c .before .before .before .before .before .before .before .before in
-    let k = table-known _ _ _ _ (c .before .before .before .before .ops .given .1) (c .before .before .before .before .before .before .table-operand .ensures .1) in
-    (a .pre .room, omega (arith, k .2, a .pre .sound .tables), omega (arith, a .pre .few (getD (a .args .s .now) (a .args .st % 65536 + 1) 0), a .pre .sound .size, a .pre .inside))
+    let at-ops = c .before .before .before .before in
+    let at-table-operand = at-ops .before .before in
+    let start = at-table-operand .before .before in
+    let k = table-known _ _ _ _ (at-ops .ops .given .1) (at-table-operand .table-operand .ensures .1) in (
+      start .pre .room,
+      omega (arith, k .2, start .pre .sound .tables),
+      omega (
+        arith,
+        start .pre .few (getD (start .args .s .now) (start .args .st % 65536 + 1) 0),
+        start .pre .sound .size,
+        start .pre .inside,
+      ),
+    )
 
 use-masks-requires : tie.Need-use-masks-requires
 use-masks-requires c κs =
-    (c .before .before .before .before .before .before .before .before .before .pre .sound, table-known _ _ _ _ (c .before .before .before .before .before .ops .given .1) (c .before .before .before .before .before .before .before .table-operand .ensures .1) .2)
-
-past-requires : tie.Need-past-requires
-past-requires c κs = search needs
+    let at-ops = c .before .before .before .before .before in
+    let at-table-operand = at-ops .before .before in
+    let start = at-table-operand .before .before in
+    (start .pre .sound, table-known _ _ _ _ (at-ops .ops .given .1) (at-table-operand .table-operand .ensures .1) .2)
 
 returns-2 : tie.Need-returns-2
 returns-2 c =
-    let a = c .before .before .before .before .before .before .before .before .before .before .before in
-    let k = table-known _ _ _ _ (c .before .before .before .before .before .before .before .ops .given .1) (c .before .before .before .before .before .before .before .before .before .table-operand .ensures .1) in
-    let i = use-is (a .args .s .now) (a .args .st % 65536) in (
-      leafed-next _ _ _ _ 1 _ _ 0 _ _ _ _ (c .before .before .before .before .before .before .before .before .before .table-operand .ensures .0) (c .before .before .before .before .before .before .before .ops .given .1) (c .before .use-masks .ensures) (c .past .ensures)
-          (i .0) (i .1) (i .2) (i .3) (omega (arith, k .0, i .0)),
-      use-noted _ _ _ _ _ _ _ _ (c .before .before .before .before .before .before .before .before .before .table-operand .ensures .0) (c .before .before .before .before .before .before .before .ops .given .1) (c .before .before .note-use .ensures ∙ rw (c .before .before .before .level-of .ensures .0))
-          (omega (arith, k .2, a .pre .sound .tables)),
+    let at-note-use = c .before .before in
+    let at-level-of = at-note-use .before in
+    let at-ops = at-level-of .before .before .before .before in
+    let at-table-operand = at-ops .before .before in
+    let start = at-table-operand .before .before in
+    let k = table-known _ _ _ _ (at-ops .ops .given .1) (at-table-operand .table-operand .ensures .1) in
+    let i = use-is (start .args .s .now) (start .args .st % 65536) in (
+      leafed-next _ _ _ _ 1 _ _ 0 _ _ _ _ (at-table-operand .table-operand .ensures .0) (at-ops .ops .given .1)
+          (c .before .use-masks .ensures) (c .past .ensures) (i .0) (i .1) (i .2) (i .3) (omega (arith, k .0, i .0)),
+      use-noted _ _ _ _ _ _ _ _ (at-table-operand .table-operand .ensures .0) (at-ops .ops .given .1)
+          (at-note-use .note-use .ensures ∙ rw (at-level-of .level-of .ensures .0)) (omega (arith, k .2, start .pre .sound .tables)),
     )
 
 pub use-part-spec : {M : Type 1} → statement M
 use-part-spec =
     tie.close
     (tie.spec
-    table-operand-requires
-    enum-known-ops
-    enum-told
+    (λ c κs. search needs)
+    (λ c. search needs)
+    (λ c. search needs)
     refused-requires
     returns
-    add-x
+    (λ c. search needs)
     shared-slice-read-x
     cast-x
-    level-of-requires
+    (λ c κs. search needs)
     note-use-requires
     use-masks-requires
-    past-requires
+    (λ c κs. search needs)
     returns-2)
