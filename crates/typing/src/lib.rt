@@ -1,5 +1,13 @@
 // One walk over each body: its form, its parts, its concurrent depth, its masks, its first wrong concurrent part and the uses of
 // tables, all in one reading from left to right; then the verdict on a book by arithmetic.
+//
+// What a walk carries:
+// - the state, one number of four times 16 bits, from the lowest up: the place, the parts so far, T and M so far. So the place is
+//   st % WIDTH, the parts are st / WIDTH % WIDTH, T is st / MASKS % WIDTH and M is st / WRITES; one place and one part more is STEP.
+// - the way to a part: bit 0 says that it stands in a table's body, bit 1 that only a predicate may stand there, and the rest counts
+//   the concurrent parts above it.
+// - marks: at 0 the first concurrent part that is not right, one more than its place, 0 if none; at 1 the deepest concurrent nesting.
+// - uses: at x how often table x was used, at 16 + x the deepest concurrent nesting at a use of it.
 use rules::Reading;
 use rules::Reason;
 use rules::Refusal;
@@ -12,18 +20,32 @@ ghost use lib.Bits.{bitOr};
 ghost use lib.Dec.{eqb};
 ghost use lib.ListN.{getD, length, set};
 ghost use Rattle.rules.specs.Codes.{operandsOf, partsOf};
-ghost use Rattle.rules.specs.Typing.{fitMasks};
-ghost use Rattle.rules.specs.Reading.{operandFits, readOperands, fieldsOf, tablesOf};
-ghost use Rattle.typing.specs.Walking.{Moved, Masked, Sound, Asked, Left, Told, wired, tallyOf, walked, noteUse};
-ghost use Rattle.typing.specs.Walking.{openOf, predOf, inMain, placeIn, partsIn, testsIn, writesIn, shut};
-ghost use Rattle.typing.specs.Walking.{Small, Apart, Leafed, Noted, rightStates, Joins, Bare, faultAfter};
-ghost use Rattle.typing.specs.Walking.{LeafAsked, leafRead, leafAt, WrongWithin, refusedAt, FieldKnown, TableKnown, MasksKnown, BesideAsked, BodyAsked, Body};
-ghost use Rattle.rules.specs.Masks.{inFields, field};
 ghost use Rattle.rules.specs.Parts.{Id};
-ghost use Rattle.rules.specs.Reading.{built, readsAt, writesAt, verdict};
+ghost use Rattle.rules.specs.Masks.{inFields, field};
+ghost use Rattle.rules.specs.Typing.{fitMasks};
+ghost use Rattle.rules.specs.Reading.{operandFits, readOperands, fieldsOf, tablesOf, built, readsAt, writesAt, verdict};
 ghost use Rattle.rules.specs.Promises.{AcceptAnswer};
-ghost use Rattle.typing.specs.Walking.{firstOf};
+ghost use Rattle.typing.specs.Walking.{placeIn, partsIn, testsIn, writesIn, Moved, Masked, Bare, Joins, rightStates};
+ghost use Rattle.typing.specs.Walking.{openOf, predOf, inMain, firstOf, faultAfter, noteUse, shut, tallyOf, walked};
+ghost use Rattle.typing.specs.Walking.{wired, Small, Apart, WrongWithin, refusedAt, Sound, FieldKnown, TableKnown};
+ghost use Rattle.typing.specs.Walking.{MasksKnown};
+ghost use Rattle.typing.specs.Walking.{LeafAsked, leafRead, leafAt, Leafed, Noted, Asked, BesideAsked, Left, Told, BodyAsked};
+ghost use Rattle.typing.specs.Walking.{Body};
 ghost use Rattle.typing.specs.Summing.{Fronted, Cleared, So, Turned, Ends, Ended};
+
+// The room of each of the four in a state.
+const WIDTH: u64 = 65536;
+
+// One place and one part more.
+const STEP: u64 = 65537;
+
+// The unit of T: the place and the parts stand below it.
+const MASKS: u64 = 4294967296;
+
+// The unit of M, the highest of the four.
+const WRITES: u64 = 281474976710656;
+
+// ---- an answer in one number, as it goes up through the walk: a state, or a refusal
 
 // On with the state, or off at the place of the first byte that cannot stand there.
 pub enum Walked {
@@ -31,14 +53,15 @@ pub enum Walked {
     Off(usize),
 }
 
-// A refusal in one number, as it goes up through the walk: a state's place is never 0.
+// A refusal has its place where a state has its parts, and 0 where a state has its place, which is never 0: so they are told apart.
 fn refusal(place: usize) -> u64
     requires { ⌜ place ≤ 4096 ⌝ }
     ensures { λ r. ⌜ r ≡ place * 65536 ⌝ }
 {
-    place as u64 * 65536
+    place as u64 * WIDTH
 }
 
+// The answer in one number.
 fn wire(w: Walked) -> u64
     requires { ⌜ Small w ⌝ }
     ensures { λ r. ⌜ r ≡ wired w ⌝ }
@@ -46,6 +69,17 @@ fn wire(w: Walked) -> u64
     match w {
         Walked::On(st) => st,
         Walked::Off(place) => refusal(place),
+    }
+}
+
+// The answer taken apart again.
+fn unwire(r: u64) -> Walked
+    ensures { λ w. ⌜ Apart r w ⌝ }
+{
+    if r % WIDTH == 0 {
+        Walked::Off((r / WIDTH) as usize)
+    } else {
+        Walked::On(r)
     }
 }
 
@@ -60,15 +94,7 @@ fn refused(r: Reading) -> u64
     }
 }
 
-fn unwire(r: u64) -> Walked
-    ensures { λ w. ⌜ Apart r w ⌝ }
-{
-    if r % 65536 == 0 {
-        Walked::Off((r / 65536) as usize)
-    } else {
-        Walked::On(r)
-    }
-}
+// ---- the state
 
 // Past a code and its operands: one part more.
 fn past(st: u64, code: u8) -> u64
@@ -76,7 +102,14 @@ fn past(st: u64, code: u8) -> u64
     ensures { λ r. ⌜ Moved st (operandsOf code) r ⌝ }
 {
     let shape = rules::shape_of(code);
-    st + 65537 + shape.operands as u64
+    st + STEP + shape.operands as u64
+}
+
+// A state without its masks.
+fn bare(st: u64) -> u64
+    ensures { λ r. ⌜ Bare st r ⌝ }
+{
+    st % MASKS
 }
 
 // With further fields tested and written.
@@ -84,16 +117,89 @@ fn with_masks(st: u64, tests: u64, writes: u64) -> u64
     requires { ⌜ (tests < 65536) × (writes < 65536) ⌝ }
     ensures { λ r. ⌜ Masked st tests writes r ⌝ }
 {
-    let masks = st / 4294967296;
-    let t = masks % 65536 | tests;
-    let m = masks / 65536 | writes;
-    st % 4294967296 + 4294967296 * (t + 65536 * m)
+    let masks = st / MASKS;
+    let t = masks % WIDTH | tests;
+    let m = masks / WIDTH | writes;
+    st % MASKS + MASKS * (t + WIDTH * m)
 }
+
+// Both sides' states joined to the state before them.
+fn joined(st: u64, l: u64, r: u64, wp: u8, wq: u8) -> u64
+    ensures { λ z. ⌜ Joins st l r wp wq z ⌝ }
+{
+    let t = st / MASKS % WIDTH | (l / MASKS % WIDTH | r / MASKS % WIDTH);
+    let m = st / WRITES | (wp | wq) as u64;
+    r % MASKS + MASKS * (t + WIDTH * m)
+}
+
+// The rule of a concurrent part with masks wp and wq, over the states after its sides.
+fn right_states(wp: u8, wq: u8, p: u64, q: u64) -> bool
+    ensures { λ r. ⌜ r ≡ rightStates wp wq p q ⌝ }
+{
+    let v = wp as u64;
+    let w = wq as u64;
+    let mp = p / WRITES;
+    let mq = q / WRITES;
+    if mp | v != v {
+        return false;
+    }
+    if mq | w != w {
+        return false;
+    }
+    if v & w != 0 {
+        return false;
+    }
+    if p / MASKS % WIDTH & w != 0 {
+        return false;
+    }
+    q / MASKS % WIDTH & v == 0
+}
+
+// A body fits (R, W) if T lies in R and W together and M lies in W.
+fn fit_state(r: u8, w: u8, st: u64) -> bool
+    ensures { λ b. ⌜ b ≡ fitMasks r w (testsIn st) (writesIn st) ⌝ }
+{
+    let own = w as u64;
+    let all = r as u64 | own;
+    if st / MASKS % WIDTH | all != all {
+        return false;
+    }
+    st / WRITES | own == own
+}
+
+// The mask of one field.
+fn field_bit(f: u8) -> u64
+    requires { ⌜ f < 8 ⌝ }
+    ensures { λ r. ⌜ (r ≡ field f) × (r < 65536) ⌝ }
+{
+    1u64 << f
+}
+
+// ---- the way
+
+// How many concurrent parts stand above.
+fn level_of(way: usize) -> u16
+    requires { ⌜ openOf way ≤ 32 ⌝ }
+    ensures { λ r. ⌜ (r ≡ openOf way) × (r ≤ 32) ⌝ }
+{
+    (way / 4) as u16
+}
+
+// Under a negation only a predicate may stand.
+fn under_not(way: usize) -> usize
+    requires { ⌜ openOf way ≤ 32 ⌝ }
+    ensures { λ r. ⌜ (openOf r ≡ openOf way) × (predOf r ≡ true) × (inMain r ≡ inMain way) ⌝ }
+{
+    if way / 2 % 2 == 1 { way } else { way + 2 }
+}
+
+// ---- the operands of a code at a place
 
 // Field and value of a test or a set.
 fn field_operand(s: &[u8], at: usize) -> Reading
     requires { ⌜ (at < length (now s)) × (length (now s) ≤ 4096) ⌝ }
-    ensures { λ r. ⌜ (r ≡ readOperands (now (s .entry)) (operandFits (fieldsOf (now (s .entry))) (tablesOf (now (s .entry))) 2) 3 0 (at + 1))
+    ensures { λ r. ⌜
+        (r ≡ readOperands (now (s .entry)) (operandFits (fieldsOf (now (s .entry))) (tablesOf (now (s .entry))) 2) 3 0 (at + 1))
         × FieldKnown (now (s .entry)) at r ⌝ }
 {
     let left = s.len() - at;
@@ -115,7 +221,8 @@ fn field_operand(s: &[u8], at: usize) -> Reading
 // The number of a table.
 fn table_operand(s: &[u8], at: usize) -> Reading
     requires { ⌜ (at < length (now s)) × (length (now s) ≤ 4096) × (2 ≤ length (now s)) ⌝ }
-    ensures { λ r. ⌜ (r ≡ readOperands (now (s .entry)) (operandFits (fieldsOf (now (s .entry))) (tablesOf (now (s .entry))) 8) 1 0 (at + 1))
+    ensures { λ r. ⌜
+        (r ≡ readOperands (now (s .entry)) (operandFits (fieldsOf (now (s .entry))) (tablesOf (now (s .entry))) 8) 1 0 (at + 1))
         × TableKnown (now (s .entry)) at r ⌝ }
 {
     if s.len() - at < 2 {
@@ -142,7 +249,8 @@ fn small_mask(b: u8, k: u8) -> bool
 // The two masks of a concurrent part.
 fn mask_operands(s: &[u8], at: usize) -> Reading
     requires { ⌜ (at < length (now s)) × (length (now s) ≤ 4096) × (fieldsOf (now s) ≤ 8) ⌝ }
-    ensures { λ r. ⌜ (r ≡ readOperands (now (s .entry)) (operandFits (fieldsOf (now (s .entry))) (tablesOf (now (s .entry))) 7) 2 0 (at + 1))
+    ensures { λ r. ⌜
+        (r ≡ readOperands (now (s .entry)) (operandFits (fieldsOf (now (s .entry))) (tablesOf (now (s .entry))) 7) 2 0 (at + 1))
         × MasksKnown (now (s .entry)) at r ⌝ }
 {
     let left = s.len() - at;
@@ -161,177 +269,20 @@ fn mask_operands(s: &[u8], at: usize) -> Reading
     Reading::Next(at + 3)
 }
 
+// ---- marks and uses
+
+// The larger of two marks.
 fn larger(a: u16, b: u16) -> u16
     ensures { λ r. ⌜ r ≡ max a b ⌝ }
 {
     if a < b { b } else { a }
 }
 
-// The mask of one field.
-fn field_bit(f: u8) -> u64
-    requires { ⌜ f < 8 ⌝ }
-    ensures { λ r. ⌜ (r ≡ field f) × (r < 65536) ⌝ }
+// A mark as it is reported.
+fn wide(x: u16) -> usize
+    ensures { λ r. ⌜ r ≡ x ⌝ }
 {
-    1u64 << f
-}
-
-// A test of a field.
-fn test_part(s: &[u8], st: u64) -> u64
-    requires { ⌜ Sound (now s) × (placeIn st < length (now s)) × (partsIn st ≤ placeIn st) ⌝ }
-    ensures { λ r. ⌜ Leafed (now (s .entry)) st (built (now (s .entry)) (shut (now (s .entry))) (placeIn st) 2 Id Id)
-        (readOperands (now (s .entry)) (operandFits (fieldsOf (now (s .entry))) (tablesOf (now (s .entry))) 2) 3 0 (placeIn st + 1)) r ⌝ }
-{
-    let at = (st % 65536) as usize;
-    let ops = field_operand(s, at);
-    let Reading::Next(next) = ops else {
-        return refused(ops);
-    };
-    past(with_masks(st, field_bit(s[at + 1]), 0), 2)
-}
-
-// A set of a field.
-fn set_part(s: &[u8], st: u64) -> u64
-    requires { ⌜ Sound (now s) × (placeIn st < length (now s)) × (partsIn st ≤ placeIn st) ⌝ }
-    ensures { λ r. ⌜ Leafed (now (s .entry)) st (built (now (s .entry)) (shut (now (s .entry))) (placeIn st) 3 Id Id)
-        (readOperands (now (s .entry)) (operandFits (fieldsOf (now (s .entry))) (tablesOf (now (s .entry))) 3) 3 0 (placeIn st + 1)) r ⌝ }
-{
-    let at = (st % 65536) as usize;
-    let ops = field_operand(s, at);
-    let Reading::Next(next) = ops else {
-        return refused(ops);
-    };
-    past(with_masks(st, 0, field_bit(s[at + 1])), 3)
-}
-
-// A use of table x below so many concurrent parts.
-fn note_use(uses: &mut [u16; 32], x: usize, level: u16)
-    requires { ⌜ (length (now uses) ≡ 32) × (x < 16) × (getD (now uses) x 0 < 65535) ⌝ }
-    ensures { λ r. ⌜ now (uses .exit) ≡ noteUse x level (now (uses .entry)) ⌝ }
-{
-    uses[x] = uses[x] + 1;
-    uses[16 + x] = larger(uses[16 + x], level);
-}
-
-// How many concurrent parts stand above.
-fn level_of(way: usize) -> u16
-    requires { ⌜ openOf way ≤ 32 ⌝ }
-    ensures { λ r. ⌜ (r ≡ openOf way) × (r ≤ 32) ⌝ }
-{
-    (way / 4) as u16
-}
-
-// A use of table x goes by the masks that its entry declares.
-fn use_masks(s: &[u8], st: u64, x: usize) -> u64
-    requires { ⌜ Sound (now s) × (x ≤ tablesOf (now s)) ⌝ }
-    ensures { λ r. ⌜ Masked st (bitOr (readsAt (now (s .entry)) x) (writesAt (now (s .entry)) x)) (writesAt (now (s .entry)) x) r ⌝ }
-{
-    let r = s[4 + 4 * x];
-    let w = s[5 + 4 * x];
-    with_masks(st, (r | w) as u64, w as u64)
-}
-
-// A use of a table.
-fn use_part(s: &[u8], uses: &mut [u16; 32], st: u64, way: usize) -> u64
-    requires { ⌜ LeafAsked (now s) (now uses) st way ⌝ }
-    ensures { λ r. ⌜ Leafed (now (s .entry)) st (built (now (s .entry)) (shut (now (s .entry))) (placeIn st) 8 Id Id)
-        (readOperands (now (s .entry)) (operandFits (fieldsOf (now (s .entry))) (tablesOf (now (s .entry))) 8) 1 0 (placeIn st + 1)) r
-        × Noted (openOf way) (built (now (s .entry)) (shut (now (s .entry))) (placeIn st) 8 Id Id)
-        (readOperands (now (s .entry)) (operandFits (fieldsOf (now (s .entry))) (tablesOf (now (s .entry))) 8) 1 0 (placeIn st + 1))
-        (now (uses .entry)) (now (uses .exit)) ⌝ }
-{
-    let at = (st % 65536) as usize;
-    let ops = table_operand(s, at);
-    let Reading::Next(next) = ops else {
-        return refused(ops);
-    };
-    let x = s[at + 1] as usize;
-    note_use(uses, x, level_of(way));
-    past(use_masks(s, st, x), 8)
-}
-
-// A part with no parts below it.
-fn leaf(s: &[u8], uses: &mut [u16; 32], st: u64, way: usize) -> u64
-    requires { ⌜ LeafAsked (now s) (now uses) st way ⌝ }
-    ensures { λ r. ⌜ Leafed (now (s .entry)) st (leafAt (now (s .entry)) (placeIn st)) (leafRead (now (s .entry)) way (placeIn st)) r
-        × Noted (openOf way) (leafAt (now (s .entry)) (placeIn st)) (leafRead (now (s .entry)) way (placeIn st))
-        (now (uses .entry)) (now (uses .exit)) ⌝ }
-{
-    let at = (st % 65536) as usize;
-    let code = s[at];
-    match code {
-        0 | 1 => past(st, 0),
-        2 => test_part(s, st),
-        3 => {
-            if way / 2 % 2 == 1 {
-                return refusal(at);
-            }
-            set_part(s, st)
-        }
-        8 => {
-            if way % 4 == 0 {
-                return use_part(s, uses, st, way);
-            }
-            refusal(at)
-        }
-        _ => refusal(at),
-    }
-}
-
-// Do parts stand below a code?
-fn has_parts(code: u8) -> bool
-    ensures { λ r. ⌜ r ≡ not (eqb (partsOf code) 0) ⌝ }
-{
-    match code {
-        4 | 5 | 6 | 7 => true,
-        _ => false,
-    }
-}
-
-// Under a negation only a predicate may stand.
-fn under_not(way: usize) -> usize
-    requires { ⌜ openOf way ≤ 32 ⌝ }
-    ensures { λ r. ⌜ (openOf r ≡ openOf way) × (predOf r ≡ true) × (inMain r ≡ inMain way) ⌝ }
-{
-    if way / 2 % 2 == 1 { way } else { way + 2 }
-}
-
-// The rule of a concurrent part with masks wp and wq, over the states after its sides.
-fn right_states(wp: u8, wq: u8, p: u64, q: u64) -> bool
-    ensures { λ r. ⌜ r ≡ rightStates wp wq p q ⌝ }
-{
-    let v = wp as u64;
-    let w = wq as u64;
-    let mp = p / 281474976710656;
-    let mq = q / 281474976710656;
-    if mp | v != v {
-        return false;
-    }
-    if mq | w != w {
-        return false;
-    }
-    if v & w != 0 {
-        return false;
-    }
-    if p / 4294967296 % 65536 & w != 0 {
-        return false;
-    }
-    q / 4294967296 % 65536 & v == 0
-}
-
-// A state without its masks.
-fn bare(st: u64) -> u64
-    ensures { λ r. ⌜ Bare st r ⌝ }
-{
-    st % 4294967296
-}
-
-// Both sides' states joined to the state before them.
-fn joined(st: u64, l: u64, r: u64, wp: u8, wq: u8) -> u64
-    ensures { λ z. ⌜ Joins st l r wp wq z ⌝ }
-{
-    let t = st / 4294967296 % 65536 | (l / 4294967296 % 65536 | r / 4294967296 % 65536);
-    let m = st / 281474976710656 | (wp | wq) as u64;
-    r % 4294967296 + 4294967296 * (t + 65536 * m)
+    x as usize
 }
 
 // One concurrent part more on the way down.
@@ -354,6 +305,116 @@ fn mark_fault(marks: &mut [u16; 2], old: u16, right: bool, at: usize)
     }
 }
 
+// A use of table x below so many concurrent parts.
+fn note_use(uses: &mut [u16; 32], x: usize, level: u16)
+    requires { ⌜ (length (now uses) ≡ 32) × (x < 16) × (getD (now uses) x 0 < 65535) ⌝ }
+    ensures { λ r. ⌜ now (uses .exit) ≡ noteUse x level (now (uses .entry)) ⌝ }
+{
+    uses[x] = uses[x] + 1;
+    uses[16 + x] = larger(uses[16 + x], level);
+}
+
+// ---- a part with no parts below it
+
+// A test of a field.
+fn test_part(s: &[u8], st: u64) -> u64
+    requires { ⌜ Sound (now s) × (placeIn st < length (now s)) × (partsIn st ≤ placeIn st) ⌝ }
+    ensures { λ r. ⌜ Leafed (now (s .entry)) st (built (now (s .entry)) (shut (now (s .entry))) (placeIn st) 2 Id Id)
+        (readOperands (now (s .entry)) (operandFits (fieldsOf (now (s .entry))) (tablesOf (now (s .entry))) 2) 3 0 (placeIn st + 1)) r ⌝ }
+{
+    let at = (st % WIDTH) as usize;
+    let ops = field_operand(s, at);
+    let Reading::Next(next) = ops else {
+        return refused(ops);
+    };
+    past(with_masks(st, field_bit(s[at + 1]), 0), 2)
+}
+
+// A set of a field.
+fn set_part(s: &[u8], st: u64) -> u64
+    requires { ⌜ Sound (now s) × (placeIn st < length (now s)) × (partsIn st ≤ placeIn st) ⌝ }
+    ensures { λ r. ⌜ Leafed (now (s .entry)) st (built (now (s .entry)) (shut (now (s .entry))) (placeIn st) 3 Id Id)
+        (readOperands (now (s .entry)) (operandFits (fieldsOf (now (s .entry))) (tablesOf (now (s .entry))) 3) 3 0 (placeIn st + 1)) r ⌝ }
+{
+    let at = (st % WIDTH) as usize;
+    let ops = field_operand(s, at);
+    let Reading::Next(next) = ops else {
+        return refused(ops);
+    };
+    past(with_masks(st, 0, field_bit(s[at + 1])), 3)
+}
+
+// A use of table x goes by the masks that its entry declares.
+fn use_masks(s: &[u8], st: u64, x: usize) -> u64
+    requires { ⌜ Sound (now s) × (x ≤ tablesOf (now s)) ⌝ }
+    ensures { λ r. ⌜ Masked st (bitOr (readsAt (now (s .entry)) x) (writesAt (now (s .entry)) x)) (writesAt (now (s .entry)) x) r ⌝ }
+{
+    let r = s[4 + 4 * x];
+    let w = s[5 + 4 * x];
+    with_masks(st, (r | w) as u64, w as u64)
+}
+
+// A use of a table.
+fn use_part(s: &[u8], uses: &mut [u16; 32], st: u64, way: usize) -> u64
+    requires { ⌜ LeafAsked (now s) (now uses) st way ⌝ }
+    ensures { λ r. ⌜ Leafed (now (s .entry)) st (built (now (s .entry)) (shut (now (s .entry))) (placeIn st) 8 Id Id)
+        (readOperands (now (s .entry)) (operandFits (fieldsOf (now (s .entry))) (tablesOf (now (s .entry))) 8) 1 0 (placeIn st + 1)) r
+        × Noted (openOf way) (built (now (s .entry)) (shut (now (s .entry))) (placeIn st) 8 Id Id)
+        (readOperands (now (s .entry)) (operandFits (fieldsOf (now (s .entry))) (tablesOf (now (s .entry))) 8) 1 0 (placeIn st + 1))
+        (now (uses .entry)) (now (uses .exit)) ⌝ }
+{
+    let at = (st % WIDTH) as usize;
+    let ops = table_operand(s, at);
+    let Reading::Next(next) = ops else {
+        return refused(ops);
+    };
+    let x = s[at + 1] as usize;
+    note_use(uses, x, level_of(way));
+    past(use_masks(s, st, x), 8)
+}
+
+// A part with no parts below it.
+fn leaf(s: &[u8], uses: &mut [u16; 32], st: u64, way: usize) -> u64
+    requires { ⌜ LeafAsked (now s) (now uses) st way ⌝ }
+    ensures { λ r. ⌜ Leafed (now (s .entry)) st (leafAt (now (s .entry)) (placeIn st)) (leafRead (now (s .entry)) way (placeIn st)) r
+        × Noted (openOf way) (leafAt (now (s .entry)) (placeIn st)) (leafRead (now (s .entry)) way (placeIn st))
+        (now (uses .entry)) (now (uses .exit)) ⌝ }
+{
+    let at = (st % WIDTH) as usize;
+    let code = s[at];
+    match code {
+        0 | 1 => past(st, 0),
+        2 => test_part(s, st),
+        // A set is no predicate.
+        3 => {
+            if way / 2 % 2 == 1 {
+                return refusal(at);
+            }
+            set_part(s, st)
+        }
+        // A table may be used only in the main body, and is no predicate.
+        8 => {
+            if way % 4 == 0 {
+                return use_part(s, uses, st, way);
+            }
+            refusal(at)
+        }
+        _ => refusal(at),
+    }
+}
+
+// Do parts stand below a code?
+fn has_parts(code: u8) -> bool
+    ensures { λ r. ⌜ r ≡ not (eqb (partsOf code) 0) ⌝ }
+{
+    match code {
+        4 | 5 | 6 | 7 => true,
+        _ => false,
+    }
+}
+
+// ---- a part and all below it
+
 // One side of a sum or a sequence: a part with no parts below it is read here, any other is walked.
 fn side(
     s: &[u8],
@@ -364,10 +425,11 @@ fn side(
     way: usize,
 ) -> Walked
     requires { ⌜ Asked (now s) (now marks) (now uses) st depth way ⌝ }
-    ensures { λ w. ⌜ Told (now (s .entry)) (openOf way) (walked (now (s .entry)) way depth (tallyOf st (now (marks .entry)) (now (uses .entry))))
+    ensures { λ w. ⌜ Told (now (s .entry)) (openOf way)
+        (walked (now (s .entry)) way depth (tallyOf st (now (marks .entry)) (now (uses .entry))))
         w (now (marks .exit)) (now (uses .exit)) ⌝ }
 {
-    let at = (st % 65536) as usize;
+    let at = (st % WIDTH) as usize;
     if s.len() <= at {
         return Walked::Off(s.len());
     }
@@ -390,10 +452,11 @@ fn beside_part(
     way: usize,
 ) -> u64
     requires { ⌜ BesideAsked (now s) (now marks) (now uses) st depth way ⌝ }
-    ensures { λ r. ⌜ Left (now (s .entry)) (openOf way) (walked (now (s .entry)) way (suc depth) (tallyOf st (now (marks .entry)) (now (uses .entry))))
+    ensures { λ r. ⌜ Left (now (s .entry)) (openOf way)
+        (walked (now (s .entry)) way (suc depth) (tallyOf st (now (marks .entry)) (now (uses .entry))))
         r (now (marks .exit)) (now (uses .exit)) ⌝ }
 {
-    let at = (st % 65536) as usize;
+    let at = (st % WIDTH) as usize;
     let ops = mask_operands(s, at);
     let Reading::Next(from) = ops else {
         return refused(ops);
@@ -424,14 +487,15 @@ fn walk(
     way: usize,
 ) -> u64
     requires { ⌜ Asked (now s) (now marks) (now uses) from depth way ⌝ }
-    ensures { λ r. ⌜ Left (now (s .entry)) (openOf way) (walked (now (s .entry)) way depth (tallyOf from (now (marks .entry)) (now (uses .entry))))
+    ensures { λ r. ⌜ Left (now (s .entry)) (openOf way)
+        (walked (now (s .entry)) way depth (tallyOf from (now (marks .entry)) (now (uses .entry))))
         r (now (marks .exit)) (now (uses .exit)) ⌝ }
 {
     let mut st = from;
     let mut d = depth;
     let mut w = way;
     loop {
-        let at = (st % 65536) as usize;
+        let at = (st % WIDTH) as usize;
         if s.len() <= at {
             return refusal(s.len());
         }
@@ -452,6 +516,7 @@ fn walk(
                 };
                 st = l;
             }
+            // A concurrent part is no predicate.
             7 => {
                 if w / 2 % 2 == 1 {
                     return refusal(at);
@@ -474,19 +539,22 @@ pub fn whole(
     way: usize,
 ) -> Walked
     requires { ⌜ BodyAsked (now s) (now marks) (now uses) start way ⌝ }
-    ensures { λ w. ⌜ Body (now (s .entry)) way start (tallyOf start (now (marks .entry)) (now (uses .entry))) w (now (marks .exit)) (now (uses .exit)) ⌝ }
+    ensures { λ w. ⌜ Body (now (s .entry)) way start (tallyOf start (now (marks .entry)) (now (uses .entry)))
+        w (now (marks .exit)) (now (uses .exit)) ⌝ }
 {
     let part = unwire(walk(s, marks, uses, start as u64, 32, way));
     let Walked::On(st) = part else {
         return part;
     };
-    let at = (st % 65536) as usize;
+    let at = (st % WIDTH) as usize;
     if at == s.len() {
         Walked::On(st)
     } else {
         Walked::Off(at)
     }
 }
+
+// ---- the bodies of a book
 
 // What stands after some bodies: the place of the next, n and D so far, and the first body that does not fit, one more than its
 // place, 0 if none.
@@ -501,18 +569,6 @@ pub struct Sums {
 pub enum Summed {
     All(Sums),
     Stop(usize),
-}
-
-// A body fits (R, W) if T lies in R and W together and M lies in W.
-fn fit_state(r: u8, w: u8, st: u64) -> bool
-    ensures { λ b. ⌜ b ≡ fitMasks r w (testsIn st) (writesIn st) ⌝ }
-{
-    let own = w as u64;
-    let all = r as u64 | own;
-    if st / 4294967296 % 65536 | all != all {
-        return false;
-    }
-    st / 281474976710656 | own == own
 }
 
 // The first body that does not fit, after one more that starts at a place.
@@ -531,7 +587,7 @@ fn more_parts(parts: usize, used: u16, st: u64) -> usize
     requires { ⌜ parts ≤ 68719476736 ⌝ }
     ensures { λ r. ⌜ (r ≡ parts + used * partsIn st) × (r ≤ parts + 4294967296) ⌝ }
 {
-    parts + used as usize * (st / 65536 % 65536) as usize
+    parts + used as usize * (st / WIDTH % WIDTH) as usize
 }
 
 // D with a table's body below its deepest use, if there is one.
@@ -543,13 +599,6 @@ fn deeper(deep: usize, used: u16, level: u16, below: u16) -> usize
         return deep;
     }
     if deep < all { all } else { deep }
-}
-
-// A mark as it is reported.
-fn wide(x: u16) -> usize
-    ensures { λ r. ⌜ r ≡ x ⌝ }
-{
-    x as usize
 }
 
 // The body of the main policy.
@@ -565,7 +614,7 @@ fn main_body(book: &[u8], marks: &mut [u16; 2], uses: &mut [u16; 32]) -> Summed
             let fits = fit_state(book::reads_of(book, 0), book::writes_of(book, 0), st);
             Summed::All(Sums {
                 at: end,
-                parts: (st / 65536 % 65536) as usize,
+                parts: (st / WIDTH % WIDTH) as usize,
                 deep: wide(marks[1]),
                 unfit: first_unfit(0, fits, at),
             })
@@ -625,6 +674,8 @@ fn all_bodies(book: &[u8], marks: &mut [u16; 2], uses: &mut [u16; 32]) -> Summed
     }
     Summed::All(z)
 }
+
+// ---- the verdict
 
 // The numbers 6 and 7 of a book whose bodies are read.
 fn sentence(book: &[u8], z: Sums, fault: usize) -> Verdict

@@ -1,4 +1,4 @@
--- `with_masks` meets its contract. Assumes nothing.
+-- `with_masks` meets its contract: both masks have room. Assumes nothing.
 use native.Mathlib.Omega.{arith}
 use mathlib.Core.Path.{refl}
 use Rattle.typing.proofs.PackLaws.{or-small, masked}
@@ -15,20 +15,15 @@ written c = or-small (c .args .st / 4294967296 / 65536) (c .args .writes) (omega
 tested : (c : lts.Start reads.Pre reads.Post) → bitOr (c .args .st / 4294967296 % 65536) (c .args .tests) < 65536
 tested c = or-small (c .args .st / 4294967296 % 65536) (c .args .tests) (omega arith) (c .pre .0)
 
-mul-result : tie.Need-mul-result
-mul-result c = omega (arith, written c)
-
-add-result : tie.Need-add-result
-add-result c = omega (arith, written c, tested c)
-
-mul-result-2 : tie.Need-mul-result-2
-mul-result-2 c = omega (arith, written c, tested c)
-
-add-result-2 : tie.Need-add-result-2
-add-result-2 c = omega (arith, written c, tested c)
-
 returns : tie.Need-returns
 returns c = masked _ _ _ _ (c .fits .st .fits) (c .pre .0) (c .pre .1) refl
 
 pub with-masks-spec : {M : Type 1} → statement M
-with-masks-spec = tie.close (tie.spec mul-result add-result mul-result-2 add-result-2 returns)
+with-masks-spec =
+    tie.close
+    (tie.spec
+    (λ c. omega (arith, written c))
+    (λ c. omega (arith, written c, tested c))
+    (λ c. omega (arith, written c, tested c))
+    (λ c. omega (arith, written c, tested c))
+    returns)
