@@ -399,7 +399,8 @@ fn leaf(s: &[u8], uses: &mut [u16; 32], st: u64, way: usize) -> u64
             }
             refusal(at)
         }
-        _ => refusal(at),
+        // The codes with parts are the walk's, and none is known from 9 on.
+        4..=7 | 9..=255 => refusal(at),
     }
 }
 
@@ -531,13 +532,7 @@ fn walk(
 }
 
 // A body that starts at a place and ends where s ends: what stands after it, or its first byte that cannot stand there.
-pub fn whole(
-    s: &[u8],
-    marks: &mut [u16; 2],
-    uses: &mut [u16; 32],
-    start: usize,
-    way: usize,
-) -> Walked
+fn whole(s: &[u8], marks: &mut [u16; 2], uses: &mut [u16; 32], start: usize, way: usize) -> Walked
     requires { ⌜ BodyAsked (now s) (now marks) (now uses) start way ⌝ }
     ensures { λ w. ⌜ Body (now (s .entry)) way start (tallyOf start (now (marks .entry)) (now (uses .entry)))
         w (now (marks .exit)) (now (uses .exit)) ⌝ }
