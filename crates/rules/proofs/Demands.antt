@@ -51,11 +51,12 @@ use Rattle.rules.proofs.Ends.{LetThrough, turned-away-is, turned-away-w
 use Rattle.rules.proofs.Ends.{words-front, words-others, finished-clears, running-clears, running-keeps}
 -- the trials of document 01 marked *, every limit from both sides, the need of each condition of a right concurrent part, the trap of
 -- pairing across packets, and that of typing a table by its body; books at the edges of the numbers 1 to 7 with their places, and T and
--- M of parts of each kind
+-- M of parts of each kind; the table of numbers
 pub use Rattle.rules.proofs.Trials.{starred}
 pub use Rattle.rules.proofs.Limits.{both-sides}
 pub use Rattle.rules.proofs.Counterexamples.{each-needed, trap, declared-counts}
 pub use Rattle.rules.proofs.Edges.{places, masks, wrong-bytes}
+pub use Rattle.rules.proofs.Numbers.{number-table}
 
 -- ---- Demand 1: any book, packet, schedule or buffer is answered. `verdict`, `evaluated` and `ran` are functions of all bytes, words
 -- and lengths, so there is an answer, and one. Bad input is refused by number, and a refusal changes nothing lent.
