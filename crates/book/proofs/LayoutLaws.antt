@@ -11,7 +11,7 @@ use borrow.Author.Tests.{le-leb, lt-leb, leb-true, eq-eqb, ne-eqb, not-false}
 use Rattle.rules.specs.Masks.{apart, inFields}
 use Rattle.rules.specs.Books.{masksFit, mostBytes, mostFields, mostTables}
 use Rattle.rules.specs.Reading.{fieldsOf, tablesOf, readsAt, writesAt, masksRight}
-use Rattle.rules.proofs.Decoding.{and-was}
+use Rattle.rules.proofs.ReadingLaws.{and-was}
 
 -- 1
 pub too-short : (n : ℕ) → n < 2 → false ≡ (leb 2 n && leb n mostBytes)

@@ -1,2 +1,3 @@
 pub mod PlaceLaws
 pub mod LayoutLaws
+pub mod OperandLaws

@@ -1,14 +1,16 @@
 -- Plain laws of places: after a part, and where a body starts.
-use Prim.Native.Nat.{ℕ, zero, suc, _+_, _-_, _*_, _<_, _≤_}
+use Prim.Native.Nat.{ℕ, zero, suc, _+_, _-_, _*_, _≤_}
 use native.Mathlib.Omega.{arith}
 use native.Mathlib.Numerals.{sub-one, add-one}
 use mathlib.Core.Path.{_≡_, refl, sym, _∙_}
+use mathlib.Core.Bool.{Bool, true, false, cond}
 use mathlib.Core.List.{List}
 use lib.ListN.{length, getD}
-use borrow.Author.Tests.{lt-ltb, le-ltb}
+use lib.Dec.{ltb}
 use Rattle.rules.specs.Codes.{shapeAt, partsOf}
+use Rattle.rules.specs.declared.Head.{Head}
 use Rattle.rules.specs.declared.Shape.{Shape}
-use Rattle.rules.specs.Reading.{skip, below, after, bodyStart, lengthAt}
+use Rattle.rules.specs.Reading.{head, noHead, headAt, skip, after, bodyStart, lengthAt}
 use Rattle.rules.proofs.ReadingLaws.{row-small}
 
 -- x is the row of the code
@@ -25,30 +27,29 @@ unfolding after
 after-zero s zero at e = refl
 after-zero s (suc d) at e = absurd (omega arith)
 
-pub after-end : (s : List ℕ) (d at : ℕ) → length s ≤ at → at ≡ after s d at
-unfolding after
-after-end s zero at h = refl
-after-end s (suc d) at h = rw (le-ltb at (length s) h)
-
-module _ (s : List ℕ) (d at : ℕ) (hd : d ≡ 0 → ⊥) (h : at < length s) (x : Shape) (ex : x ≡ shapeAt (getD s at 0)) where
-  after-suc : after s d at ≡ skip (x .parts) (after s (d - 1)) (at + 1 + x .operands)
-  unfolding after
-  after-suc = rw ex (go d hd)
+-- h is the head at the place, and x the row of its code
+module _ (s : List ℕ) (d at : ℕ) (hd : d ≡ 0 → ⊥) (h : Head) (eh : h ≡ headAt s at) (x : Shape) (ex : x ≡ shapeAt (h .code)) where
+  after-suc : after s d at ≡ skip (x .parts) (after s (d - 1)) (h .from)
+  unfolding after headAt
+  after-suc = rw (ex, eh) (go d hd (ltb at (length s)) refl)
     where
-      go : (d : ℕ) → (d ≡ 0 → ⊥) → after s d at ≡ skip (partsOf (getD s at 0)) (after s (d - 1)) (below s at)
-      go zero hd = absurd (hd refl)
-      go (suc d) hd = rw (lt-ltb at (length s) h, sub-one)
+      go : (d : ℕ) → (d ≡ 0 → ⊥) → (there : Bool) → ltb at (length s) ≡ there
+          → let y = cond there (head s at) (noHead at) in
+          after s d at ≡ skip (partsOf (y .code)) (after s (d - 1)) (y .from)
+      go zero hd there e = absurd (hd refl)
+      go (suc d) hd true e = rw (e, sub-one)
+      go (suc d) hd false e = rw e
 
-  pub after-none : x .parts ≡ 0 → at + 1 + x .operands ≡ after s d at
+  pub after-none : x .parts ≡ 0 → h .from ≡ after s d at
   after-none e = sym (after-suc ∙ rw e)
 
-  pub after-one : (m : ℕ) → m ≡ after s (d - 1) (at + 1 + x .operands) → x .parts ≡ 1 → m ≡ after s d at
+  pub after-one : (m : ℕ) → m ≡ after s (d - 1) (h .from) → x .parts ≡ 1 → m ≡ after s d at
   after-one m em e = em ∙ sym (after-suc ∙ rw e)
 
-  pub after-two : (m n : ℕ) → m ≡ after s (d - 1) (at + 1 + x .operands) → n ≡ after s (d - 1) m → (x .parts ≡ 0 → ⊥) → (x .parts ≡ 1 → ⊥)
+  pub after-two : (m n : ℕ) → m ≡ after s (d - 1) (h .from) → n ≡ after s (d - 1) m → (x .parts ≡ 0 → ⊥) → (x .parts ≡ 1 → ⊥)
       → n ≡ after s d at
   after-two m n em en h0 h1 =
-      let b : x .parts ≤ 2 = parts-few (getD s at 0) x ex in
+      let b : x .parts ≤ 2 = parts-few (h .code) x ex in
       let e : x .parts ≡ 2 = omega arith in
       en ∙ rw em (sym (after-suc ∙ rw e))
 

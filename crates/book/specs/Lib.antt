@@ -1,1 +1,2 @@
--- The contracts of the book name the rules alone.
+-- What the contracts of the book name beside the rules.
+pub mod Operands

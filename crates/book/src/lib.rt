@@ -1,19 +1,141 @@
-// A book's bytes: the byte at a place, the place after a part, where a body starts, and the tests 1, 2 and 4 of its layout.
-// Every function is total: nothing is asked of the bytes.
+// A book's bytes: numbers, the head of a part and its operands, the place after a part, where a body starts, and the tests 1, 2
+// and 4 of its layout. What stands where behind a code byte is known here alone. The public functions ask nothing of the bytes.
+use rules::Head;
+use rules::Reading;
 ghost use mathlib.Core.Path.{_≡_};
 ghost use mathlib.Core.Bool.{_&&_};
-ghost use Prim.Native.Nat.{suc, _+_, _*_, _≤_};
+ghost use Prim.Native.Nat.{suc, _+_, _*_, _≤_, _<_};
 ghost use lib.Dec.{leb};
-ghost use lib.ListN.{getD};
+ghost use lib.ListN.{getD, length};
 ghost use Rattle.rules.specs.Masks.{inFields};
 ghost use Rattle.rules.specs.Books.{masksFit, mostFields, mostTables, mostBytes};
-ghost use Rattle.rules.specs.Reading.{lengthAt, readsAt, writesAt, tablesOf, bodyStart, masksRight, after};
+ghost use Rattle.rules.specs.Reading.{numberAt, lengthAt, readsAt, writesAt, fieldsOf, tablesOf, bodyStart, masksRight, headAt, after};
+ghost use Rattle.rules.specs.Reading.{fieldWrong, masksWrong, tableWrong, operandsWrong, operandsAt, readOperands};
+ghost use Rattle.book.specs.Operands.{WrongPlace, Within};
 
 // The byte at a place, 0 past the end.
 pub fn byte_at(s: &[u8], at: usize) -> u8
     ensures { λ r. ⌜ r ≡ getD (now (s .entry)) at 0 ⌝ }
 {
     if at < s.len() { s[at] } else { 0 }
+}
+
+// The two-byte number at a place, high byte first; 0 past the end.
+pub fn number_at(s: &[u8], at: usize) -> u16
+    ensures { λ r. ⌜ r ≡ numberAt (now (s .entry)) at ⌝ }
+{
+    if at < s.len() {
+        byte_at(s, at) as u16 * 256 + byte_at(s, at + 1) as u16
+    } else {
+        0
+    }
+}
+
+// The head of the part at a place; past the end that of id, and what would follow begins there too.
+pub fn head_at(s: &[u8], at: usize) -> Head
+    ensures { λ r. ⌜ r ≡ headAt (now (s .entry)) at ⌝ }
+{
+    if s.len() <= at {
+        return Head {
+            code: 0,
+            field: 0,
+            value: 0,
+            left: 0,
+            right: 0,
+            table: 0,
+            from: at,
+        };
+    }
+    let code = s[at];
+    let first = byte_at(s, at + 1);
+    let shape = rules::shape_of(code);
+    Head {
+        code,
+        field: first,
+        value: number_at(s, at + 2),
+        left: first,
+        right: byte_at(s, at + 2),
+        table: first,
+        from: at + 1 + shape.operands,
+    }
+}
+
+// ---- operands: the place of the first that is there and cannot stand, 0 if none
+
+// A field of k or more.
+fn field_wrong(s: &[u8], at: usize) -> usize
+    requires { ⌜ at < length (now s) ⌝ }
+    ensures { λ r. ⌜ WrongPlace (now (s .entry)) at (fieldWrong (fieldsOf (now (s .entry))) (operandsAt (now (s .entry)) 2 at)) r ⌝ }
+{
+    if s.len() <= at + 1 {
+        return 0;
+    }
+    if s[at + 1] < byte_at(s, 0) { 0 } else { at + 1 }
+}
+
+// A mask with a bit at k or above; a byte that is not there has none.
+fn masks_wrong(s: &[u8], at: usize) -> usize
+    requires { ⌜ at < length (now s) ⌝ }
+    ensures { λ r. ⌜ WrongPlace (now (s .entry)) at (masksWrong (fieldsOf (now (s .entry))) (operandsAt (now (s .entry)) 7 at)) r ⌝ }
+{
+    let k = byte_at(s, 0);
+    if !small_mask(byte_at(s, at + 1), k) {
+        return at + 1;
+    }
+    if small_mask(byte_at(s, at + 2), k) {
+        0
+    } else {
+        at + 2
+    }
+}
+
+// A table number outside 1 to m.
+fn table_wrong(s: &[u8], at: usize) -> usize
+    requires { ⌜ at < length (now s) ⌝ }
+    ensures { λ r. ⌜ WrongPlace (now (s .entry)) at (tableWrong (tablesOf (now (s .entry))) (operandsAt (now (s .entry)) 8 at)) r ⌝ }
+{
+    if s.len() <= at + 1 {
+        return 0;
+    }
+    let x = s[at + 1];
+    if x == 0 {
+        return at + 1;
+    }
+    if x <= byte_at(s, 1) { 0 } else { at + 1 }
+}
+
+fn operand_wrong(s: &[u8], code: u8, at: usize) -> usize
+    requires { ⌜ at < length (now s) ⌝ }
+    ensures { λ r. ⌜ WrongPlace (now (s .entry)) at
+        (operandsWrong (fieldsOf (now (s .entry))) (tablesOf (now (s .entry))) code (operandsAt (now (s .entry)) code at)) r ⌝ }
+{
+    match code {
+        2 | 3 => field_wrong(s, at),
+        7 => masks_wrong(s, at),
+        8 => table_wrong(s, at),
+        _ => 0,
+    }
+}
+
+// The operands of a code that stands at a place, judged together: where they end, the place of the first that cannot stand, or the
+// end of the bytes where they are cut.
+pub fn read_operands(s: &[u8], code: u8, at: usize) -> Reading
+    ensures { λ r. ⌜ (r ≡ readOperands (now (s .entry)) (fieldsOf (now (s .entry))) (tablesOf (now (s .entry))) code at)
+        × Within (length (now (s .entry))) r ⌝ }
+{
+    if s.len() <= at {
+        return Reading::Wrong(s.len());
+    }
+    let wrong = operand_wrong(s, code, at);
+    if wrong != 0 {
+        return Reading::Wrong(wrong);
+    }
+    let shape = rules::shape_of(code);
+    let end = at + 1 + shape.operands;
+    if s.len() < end {
+        return Reading::Wrong(s.len());
+    }
+    Reading::Next(end)
 }
 
 // The place after the part at a place, at most depth deep. Past the end and below the depth stands nothing.
@@ -23,17 +145,13 @@ pub fn place_after(s: &[u8], at: usize, depth: usize) -> usize
     if depth == 0 {
         return at;
     }
-    if s.len() <= at {
-        return at;
-    }
-    let code = s[at];
-    let shape = rules::shape_of(code);
+    let h = head_at(s, at);
+    let shape = rules::shape_of(h.code);
     let parts = shape.parts;
-    let from = at + 1 + shape.operands;
     if parts == 0 {
-        return from;
+        return h.from;
     }
-    let middle = place_after(s, from, depth - 1);
+    let middle = place_after(s, h.from, depth - 1);
     if parts == 1 {
         return middle;
     }
@@ -44,8 +162,7 @@ pub fn place_after(s: &[u8], at: usize, depth: usize) -> usize
 pub fn length_of(s: &[u8], x: u8) -> usize
     ensures { λ r. ⌜ (r ≡ lengthAt (now (s .entry)) x) × (r ≤ 65535) ⌝ }
 {
-    let e = 2 + 4 * (x as usize);
-    (byte_at(s, e) as usize) * 256 + (byte_at(s, e + 1) as usize)
+    number_at(s, 2 + 4 * (x as usize)) as usize
 }
 
 // The masks R and W of entry x.

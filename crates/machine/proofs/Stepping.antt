@@ -14,7 +14,7 @@ use Rattle.rules.specs.Packets.{Packets, Ascending, keep, lacks}
 use Rattle.rules.specs.States.{join, place, enter}
 use Rattle.rules.specs.Lists.{All, also}
 use Rattle.rules.proofs.Lists.{all-at}
-use Rattle.rules.proofs.Decoding.{and-was}
+use Rattle.rules.proofs.ReadingLaws.{and-was}
 use Rattle.machine.specs.Area.{Pos, here, nodes, given, finished, Becomes}
 use Rattle.machine.specs.Ready.{fin, marks}
 use Rattle.machine.specs.Shown.{Live, Placed, Done, Waiting, Negated, Both, flat, partOf, spotOf, joinOf, meantBy, meant, state}

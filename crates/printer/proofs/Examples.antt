@@ -8,7 +8,7 @@ use Rattle.rules.specs.Parts.{write, parts, deep, namesOpen}
 use Rattle.rules.specs.Typing.{tested, written, rightMasks, fitMasks, wrongs}
 use Rattle.rules.specs.Books.{entries, bytesOf, masksFit}
 use Rattle.rules.specs.Checks.{firstFailed}
-use Rattle.rules.specs.Reading.{byteIf, stands, operandFits, readOperands, readPart, readBody, bodyStart, readEntry}
+use Rattle.rules.specs.Reading.{byteIf, stands, operandsWrong, readOperands, readPart, readBody, bodyStart, readEntry}
 use Rattle.rules.specs.Reading.{readEntries, masksRight, after, built, partAt, bodyAt, useAt, mainOf, tablesFrom}
 use Rattle.rules.specs.Reading.{policyOf, wrongBody, misfit, wrongsIn, misfitsIn, typingFaults, formChecks, bookChecks}
 use Rattle.rules.specs.Working.{each, out, steps, room, own, widest, width}
@@ -28,7 +28,7 @@ pub examples : (printed (before (0 ∷ 0 ∷ 0 ∷ 0 ∷ []))
 unfolding has apart within less
     padded passes put mix orderOf insert union keep member pairsInto valuesOf
     write parts deep namesOpen tested written rightMasks fitMasks wrongs entries bytesOf masksFit
-    byteIf stands operandFits readOperands readPart readBody bodyStart readEntry readEntries masksRight
+    byteIf stands operandsWrong readOperands readPart readBody bodyStart readEntry readEntries masksRight
     after built partAt bodyAt useAt mainOf tablesFrom policyOf wrongBody misfit wrongsIn misfitsIn typingFaults
     firstFailed formChecks bookChecks packetChecks runChecks
     each out steps room own widest width

@@ -12,7 +12,7 @@ use Rattle.rules.specs.Parts.{Part, Id, Test, Set, Seq, Beside, write, p
 use Rattle.rules.specs.Typing.{tested, written, rightMasks, fitMasks, wrongs}
 use Rattle.rules.specs.Books.{entries, bytesOf, masksFit}
 use Rattle.rules.specs.Checks.{firstFailed}
-use Rattle.rules.specs.Reading.{formChecks, bookChecks, byteIf, stands, operandFits, readOperands, readPart, readBody, bodyStart}
+use Rattle.rules.specs.Reading.{formChecks, bookChecks, byteIf, stands, operandsWrong, readOperands, readPart, readBody, bodyStart}
 use Rattle.rules.specs.Reading.{readEntry, readEntries, masksRight, after, built, partAt, bodyAt, useAt, mainOf}
 use Rattle.rules.specs.Reading.{tablesFrom, policyOf, wrongBody, misfit, wrongsIn, misfitsIn, typingFaults}
 use Rattle.rules.specs.Reading.{sizesOf, verdict}
@@ -79,7 +79,7 @@ pub each-needed : map shown lacking-one
 unfolding shown lacking-one sides conditions
     has apart within less padded passes put mix orderOf insert union keep member pairsInto
     write parts deep tested written rightMasks fitMasks wrongs entries bytesOf masksFit
-    byteIf stands operandFits readOperands readPart readBody bodyStart readEntry readEntries masksRight
+    byteIf stands operandsWrong readOperands readPart readBody bodyStart readEntry readEntries masksRight
     after built partAt bodyAt useAt mainOf tablesFrom policyOf wrongBody misfit wrongsIn misfitsIn typingFaults
     firstFailed formChecks bookChecks sizesOf verdict
     each out place enter finish leave next move used lacking stuckSteps stuckIn start refusalSays verdictSays
@@ -143,7 +143,7 @@ pub declared-counts : map declared declared-wider
     ∷ []
 unfolding declares bookWith declared declared-wider
     apart within parts deep write tested written rightMasks fitMasks wrongs entries bytesOf masksFit
-    byteIf stands operandFits readOperands readPart readBody bodyStart readEntry readEntries masksRight
+    byteIf stands operandsWrong readOperands readPart readBody bodyStart readEntry readEntries masksRight
     after built partAt bodyAt useAt mainOf tablesFrom policyOf wrongBody misfit wrongsIn misfitsIn typingFaults
     firstFailed formChecks bookChecks sizesOf verdict
     refusalSays verdictSays

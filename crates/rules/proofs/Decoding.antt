@@ -7,18 +7,20 @@ use native.Mathlib.Nat.{add-zero, zero-add, suc-add}
 use mathlib.Core.Path.{_≡_, refl, sym, ap, _∙_, subst}
 use mathlib.Core.Bool.{Bool, true, false, not, cond, _&&_, _||_}
 use mathlib.Core.List.{List, [], _∷_, _++_, append-assoc, append-nil}
+use mathlib.Core.Option.{none}
 use lib.Dec.{ltb, leb, eqb, lit≤}
 use lib.ListN.{length, getD, take, drop, length-drop, length-append, take-append-drop}
-use lib.Seq.{drop-cons, drop-append-le, length-take-le, take-append-seam, take-nil}
+use lib.Seq.{drop-cons, drop-drop, drop-append-le, drop-append-seam, length-take-le, take-append-seam, take-nil}
 use borrow.Author.Tests.{lt-ltb, le-leb, ltb-true, leb-true, eqb-true, not-true}
 use Rattle.rules.specs.declared.Reading.{Reading}
 use Rattle.rules.specs.declared.Reading.the-variants.{Next, Wrong}
 use Rattle.rules.specs.Codes.{operandsOf, partsOf}
 use Rattle.rules.specs.Parts.{Part, Id, Drop, Test, Set, Not, Sum, Seq, Beside, Table, Open, write, size}
 use Rattle.rules.specs.Books.{mostDepth, Bytes, Scope, Fine}
-use Rattle.rules.specs.Reading.{andThen, byteIf, stands, operandFits, readOperands, readTimes, readPart, readBody}
+use Rattle.rules.specs.Reading.{andThen, byteIf, stands, operandsWrong, readOperands, readTimes, readPart, readBody}
 use Rattle.rules.specs.Reading.{numberAt, skip, after, built, partAt}
-use Rattle.rules.proofs.ReadingLaws.{byte-was, byte-next, parts-small, body-whole}
+use Rattle.rules.proofs.ReadingLaws.{and-was, byte-was, byte-next, none-wrong, none-later, operands-were, operands-next}
+use Rattle.rules.proofs.ReadingLaws.{parts-small, body-whole}
 
 pub bytes-take : (n : ℕ) (s : List ℕ) → Bytes s → Bytes (take n s)
 bytes-take zero s h i = lit≤ tt
@@ -65,18 +67,30 @@ pub then-was : (x : Reading) (f : ℕ → Reading) (e : ℕ) → andThen x f ≡
 then-was (Next a) f e q = (a, refl, q)
 then-was (Wrong a) f e q = let z : _≡_ {A = ℕ} 0 1 = cc in absurd (omega arith)
 
-pub and-was : (a b : Bool) → (a && b) ≡ true → (a ≡ true) × (b ≡ true)
-and-was true b h = (refl, h)
-and-was false b h = let z : _≡_ {A = ℕ} 0 1 = cc in absurd (omega arith)
-
--- n bytes from a place on, and that each of them may be the operand of its number
+-- n bytes from a place on
 unfoldable bytes : List ℕ → ℕ → ℕ → List ℕ
 bytes s a zero = []
 bytes s a (suc n) = getD s a 0 ∷ bytes s (a + 1) n
 
-abbrev Operands : List ℕ → (ℕ → ℕ → Bool) → ℕ → ℕ → ℕ → Type 0
-Operands s ok zero i a = Unit {0}
-Operands s ok (suc n) i a = (ok i (getD s a 0) ≡ true) × Operands s ok n (suc i) (a + 1)
+bytes-drop : (s : List ℕ) (n a : ℕ) → a + n ≤ length s → drop a s ≡ bytes s a n ++ drop (a + n) s
+unfolding bytes
+bytes-drop s zero a h = ap (λ (x : ℕ). drop x s) (sym (add-zero a))
+bytes-drop s (suc n) a h =
+    let q : a + 1 + n ≡ a + suc n = omega arith in
+    rw add-one (drop-cons s a 0 (omega arith))
+    ∙ ap (λ (l : List ℕ). getD s a 0 ∷ l) (bytes-drop s n (a + 1) (omega arith) ∙ ap (λ (x : ℕ). bytes s (a + 1) n ++ drop x s) q)
+
+bytes-length : (s : List ℕ) (n a : ℕ) → length (bytes s a n) ≡ n
+unfolding bytes
+bytes-length s zero a = refl
+bytes-length s (suc n) a = ap suc (bytes-length s n (a + 1))
+
+-- the n bytes that are there
+bytes-are : (s : List ℕ) (n a : ℕ) → a + n ≤ length s → take n (drop a s) ≡ bytes s a n
+bytes-are s n a h =
+    ap (take n) (bytes-drop s n a h)
+    ∙ ap (λ (x : ℕ). take x (bytes s a n ++ drop (a + n) s)) (sym (bytes-length s n a))
+    ∙ take-append-seam (bytes s a n) (drop (a + n) s)
 
 byte-drop : (s : List ℕ) (ok : ℕ → Bool) (at a : ℕ) → byteIf s ok at ≡ Next a
     → (a ≡ at + 1) × (ok (getD s at 0) ≡ true) × (drop at s ≡ getD s at 0 ∷ drop (at + 1) s) × (at < length s)
@@ -84,24 +98,21 @@ byte-drop s ok at a q =
     let w : (at < length s) × (ok (getD s at 0) ≡ true) × (a ≡ at + 1) = byte-was s ok at a q in
     (w .2, w .1, rw add-one (drop-cons s at 0 (w .0)), w .0)
 
-abbrev OperandsRead : List ℕ → (ℕ → ℕ → Bool) → ℕ → ℕ → ℕ → ℕ → Type 0
-OperandsRead s ok n i a b = (b ≡ a + n) × (drop a s ≡ bytes s a n ++ drop b s) × Operands s ok n i a × (a ≤ length s → b ≤ length s)
+-- a code's operands are there, and none is wrong
+module _ (s : List ℕ) (k m code at b : ℕ) where
+  abbrev OperandsRead : Type 0
+  OperandsRead =
+      (b ≡ at + 1 + operandsOf code) × (drop (at + 1) s ≡ bytes s (at + 1) (operandsOf code) ++ drop b s)
+      × (operandsWrong k m code (bytes s (at + 1) (operandsOf code)) ≡ none)
 
-operands-read : (s : List ℕ) (ok : ℕ → ℕ → Bool) (n i a b : ℕ) → readOperands s ok n i a ≡ Next b → OperandsRead s ok n i a b
-unfolding readOperands bytes
-operands-read s ok zero i a b q =
-    let e : a ≡ b = cc in
-    (omega arith, ap (λ (x : ℕ). drop x s) e, tt, λ h. omega arith)
-operands-read s ok (suc n) i a b q =
-    go (then-was (byteIf s (ok i) a) (readOperands s ok n (suc i)) b q) (λ x r. operands-read s ok n (suc i) x b r)
-  where
-    go : (x : ℕ) × (byteIf s (ok i) a ≡ Next x) × (readOperands s ok n (suc i) x ≡ Next b)
-        → ((x : ℕ) → readOperands s ok n (suc i) x ≡ Next b → OperandsRead s ok n (suc i) x b)
-        → OperandsRead s ok (suc n) i a b
-    go w f =
-        let g = byte-drop s (ok i) a (w .0) (w .1) in
-        let h : OperandsRead s ok n (suc i) (a + 1) b = f (a + 1) (rw (g .0) at (w .2)) in
-        (omega arith, g .2 ∙ ap (λ (l : List ℕ). getD s a 0 ∷ l) (h .1), (g .1, h .2), λ le. h .3 (omega (arith, g .3)))
+  operands-read : readOperands s k m code at ≡ Next b → OperandsRead
+  operands-read q =
+      let w = operands-were s k m code at b q in
+      let n : ℕ = operandsOf code in (
+        w .0,
+        bytes-drop s n (at + 1) (w .1) ∙ ap (λ (x : ℕ). bytes s (at + 1) n ++ drop x s) (sym (w .0)),
+        ap (operandsWrong k m code) (sym (bytes-are s n (at + 1) (w .1))) ∙ w .2,
+      )
 
 -- no code above 8 stands
 none-above : (t p : Bool) (code : ℕ) → stands t p (suc (suc (suc (suc (suc (suc (suc (suc (suc code))))))))) ≡ true → ⊥
@@ -172,23 +183,25 @@ module _ (s : List ℕ) (small : Bytes s) (c : Scope) (named : ℕ → Part) (na
       (named-written x (named x) n, named-fine c named d x pred (named x) refl n (not-true pred (w .0)) (w .1) lo up)
 
   built-right : (d at : ℕ) (pred : Bool) (l r : Part) (code : ℕ) → stands (c .main) pred code ≡ true
-      → Operands s (operandFits (c .fields) (c .tables) code) (operandsOf code) 0 (at + 1)
+      → operandsWrong (c .fields) (c .tables) code (bytes s (at + 1) (operandsOf code)) ≡ none
       → FineParts (Fine c named d (eqb code 4 || pred)) (partsOf code) l r → Built d pred at l r code
-  unfolding write Fine built bytes stands operandFits
+  unfolding write Fine built bytes stands operandsWrong
   built-right d at pred l r zero h o f = (refl, tt)
   built-right d at pred l r (suc zero) h o f = (refl, tt)
   built-right d at pred l r (suc (suc zero)) h o f =
-      (value-bytes 2 s small at, (ltb-true (getD s (at + 1) 0) (c .fields) (o .0), value-small (at + 2)))
+      (value-bytes 2 s small at, (ltb-true (getD s (at + 1) 0) (c .fields) (none-wrong _ _ o .0), value-small (at + 2)))
   built-right d at pred l r (suc (suc (suc zero))) h o f =
-      (value-bytes 3 s small at, (not-true pred h, ltb-true (getD s (at + 1) 0) (c .fields) (o .0), value-small (at + 2)))
+      (value-bytes 3 s small at, (not-true pred h, ltb-true (getD s (at + 1) 0) (c .fields) (none-wrong _ _ o .0), value-small (at + 2)))
   built-right d at pred l r (suc (suc (suc (suc zero)))) h o f = (refl, f)
   built-right d at pred l r (suc (suc (suc (suc (suc zero))))) h o f = (refl, f)
   built-right d at pred l r (suc (suc (suc (suc (suc (suc zero)))))) h o f = (refl, f)
   built-right d at pred l r (suc (suc (suc (suc (suc (suc (suc zero))))))) h o f =
       let e : at + 1 + 1 ≡ at + 2 = omega arith in
       let k : ℕ = 2 ^ c .fields in
-      (rw e, (not-true pred h, ltb-true (getD s (at + 1) 0) k (o .0), rw e at (ltb-true (getD s (at + 1 + 1) 0) k (o .1 .0)), f .0, f .1))
-  built-right d at pred l r (suc (suc (suc (suc (suc (suc (suc (suc zero)))))))) h o f = built-use d at pred l r h (o .0)
+      let w = none-wrong _ _ o in
+      let v = none-wrong _ _ (none-later _ (w .1)) in
+      (rw e, (not-true pred h, ltb-true (getD s (at + 1) 0) k (w .0), rw e at (ltb-true (getD s (at + 1 + 1) 0) k (v .0)), f .0, f .1))
+  built-right d at pred l r (suc (suc (suc (suc (suc (suc (suc (suc zero)))))))) h o f = built-use d at pred l r h (none-wrong _ _ o .0)
   built-right d at pred l r (suc (suc (suc (suc (suc (suc (suc (suc (suc code))))))))) h o f = absurd (none-above (c .main) pred code h)
 
   -- n parts one after the other
@@ -223,10 +236,10 @@ module _ (s : List ℕ) (small : Bytes s) (c : Scope) (named : ℕ → Part) (na
   -- a part from its code, operands and parts
   part-read : (d : ℕ) (pred : Bool) (at b e : ℕ) (code : ℕ) → getD s at 0 ≡ code → at < length s → stands (c .main) pred code ≡ true
       → drop at s ≡ code ∷ drop (at + 1) s
-      → OperandsRead s (operandFits (c .fields) (c .tables) code) (operandsOf code) 0 (at + 1) b
+      → OperandsRead s (c .fields) (c .tables) code at b → b ≤ length s
       → PartsRead d (eqb code 4 || pred) (partsOf code) b e → Read s c named (suc d) pred at e
   unfolding after partAt
-  part-read d pred at b e code is lt st dr o w =
+  part-read d pred at b e code is lt st dr o le w =
       let b′ : ℕ = at + 1 + operandsOf code in
       let w′ : PartsRead d (eqb code 4 || pred) (partsOf code) b′ e
       = subst (λ (x : ℕ). PartsRead d (eqb code 4 || pred) (partsOf code) x e) (o .0) w in
@@ -241,7 +254,7 @@ module _ (s : List ℕ) (small : Bytes s) (c : Scope) (named : ℕ → Part) (na
             ∙ sym (append-assoc os (partBytes (partsOf code) (write l) (write r)) (drop e s)))
             ∙ ap (λ (x : List ℕ). x ++ drop e s) (sym (done .0)),
         done .1,
-        w .3 (o .3 (omega arith)),
+        w .3 le,
       )
 
   pub read : (d : ℕ) (pred : Bool) (at e : ℕ) → readPart s c d pred at ≡ Next e → Read s c named d pred at e
@@ -254,12 +267,12 @@ module _ (s : List ℕ) (small : Bytes s) (c : Scope) (named : ℕ → Part) (na
       go : ((p : Bool) (x y : ℕ) → readPart s c d p x ≡ Next y → Read s c named d p x y) → Read s c named (suc d) pred at e
       go ih =
           let code : ℕ = getD s at 0 in
-          let ok : ℕ → ℕ → Bool = operandFits (c .fields) (c .tables) code in
           let w = then-was (byteIf s (stands (c .main) pred) at) _ e q in
           let g = byte-drop s (stands (c .main) pred) at (w .0) (w .1) in
-          let v = then-was (readOperands s ok (operandsOf code) 0 (w .0)) _ e (w .2) in
-          part-read d pred at (v .0) e code refl (g .3) (g .1) (g .2)
-          (operands-read s ok (operandsOf code) 0 (at + 1) (v .0) (ap (readOperands s ok (operandsOf code) 0) (sym (g .0)) ∙ v .1))
+          let v = then-was (readOperands s (c .fields) (c .tables) code at) _ e (w .2) in
+          let o : OperandsRead s (c .fields) (c .tables) code at (v .0) = operands-read s (c .fields) (c .tables) code at (v .0) (v .1) in
+          let le : v .0 ≤ length s = omega (arith, o .0, operands-were s (c .fields) (c .tables) code at (v .0) (v .1) .1) in
+          part-read d pred at (v .0) e code refl (g .3) (g .1) (g .2) o le
           (parts-read d (eqb code 4 || pred) (readPart s c d (eqb code 4 || pred)) (ih (eqb code 4 || pred)) (partsOf code) (v .0) e
           (parts-small code) (v .2))
 
@@ -292,21 +305,17 @@ masks-of s at a b rest e =
     let e2 : at + 1 + 1 ≡ at + 2 = omega arith in
     (h .1, rw e2 at (g .1))
 
-abbrev Fitting : (ℕ → ℕ → Bool) → ℕ → List ℕ → Type 0
-Fitting ok i [] = Unit {0}
-Fitting ok i (b ∷ bs) = (ok i b ≡ true) × Fitting ok (suc i) bs
-
 module _ (s : List ℕ) where
-  reads-operands : (ok : ℕ → ℕ → Bool) (bs : List ℕ) (i a : ℕ) (rest : List ℕ) → drop a s ≡ bs ++ rest → Fitting ok i bs
-      → (readOperands s ok (length bs) i a ≡ Next (a + length bs)) × (drop (a + length bs) s ≡ rest)
-  unfolding readOperands
-  reads-operands ok [] i a rest e o = (ap (λ (x : ℕ). Next x) (sym (add-zero a)), rw (add-zero a) e)
-  reads-operands ok (b ∷ bs) i a rest e o =
-      let h = drop-head s a b (bs ++ rest) e in
-      let g = reads-operands ok bs (suc i) (a + 1) rest (h .2) (o .1) in
-      let q : a + 1 + length bs ≡ a + suc (length bs) = omega arith in
-      let n : Next (a + 1) ≡ byteIf s (ok i) a = byte-next s (ok i) a (h .0) (ap (ok i) (h .1) ∙ o .0) in
-      (rw (← n) (g .0 ∙ ap (λ (x : ℕ). Next x) q), rw (← q) (g .1))
+  reads-operands : (k m code at : ℕ) (bs rest : List ℕ) → drop (at + 1) s ≡ bs ++ rest → length bs ≡ operandsOf code
+      → at < length s → operandsWrong k m code bs ≡ none
+      → (readOperands s k m code at ≡ Next (at + 1 + operandsOf code)) × (drop (at + 1 + operandsOf code) s ≡ rest)
+  reads-operands k m code at bs rest e len lt o =
+      let n : ℕ = operandsOf code in
+      let there : at + 1 + n ≤ length s = omega (arith, ap length e, length-drop (at + 1) s, length-append bs rest) in
+      let taken : take n (drop (at + 1) s) ≡ bs = ap (take n) e ∙ rw (← len) (take-append-seam bs rest) in (
+        operands-next s k m code at there (ap (operandsWrong k m code) taken ∙ o),
+        sym (drop-drop n (at + 1) s) ∙ ap (drop n) e ∙ rw (← len) (drop-append-seam bs rest),
+      )
 
   module _ (c : Scope) (named : ℕ → Part) where
     -- the part at a place is read, decodes to p, and the rest stands after it
@@ -325,18 +334,15 @@ module _ (s : List ℕ) where
         × (after s (suc d) at ≡ skip (partsOf code) (after s d) b) × (drop b s ≡ rest) × (drop (at + 1) s ≡ bs ++ rest)
 
     reads-head : (d : ℕ) (pred : Bool) (at code : ℕ) (bs rest : List ℕ) → drop at s ≡ code ∷ (bs ++ rest)
-        → stands (c .main) pred code ≡ true → length bs ≡ operandsOf code → Fitting (operandFits (c .fields) (c .tables) code) 0 bs
+        → stands (c .main) pred code ≡ true → length bs ≡ operandsOf code
+        → operandsWrong (c .fields) (c .tables) code bs ≡ none
         → HeadRead d pred at code bs rest
     unfolding readPart partAt after
     reads-head d pred at code bs rest e st len o =
-        let ok : ℕ → ℕ → Bool = operandFits (c .fields) (c .tables) code in
         let h = drop-head s at code (bs ++ rest) e in
         let is : ℕ → Bool = stands (c .main) pred in
         let n : Next (at + 1) ≡ byteIf s is at = byte-next s is at (h .0) (ap is (h .1) ∙ st) in
-        let b : ℕ = at + 1 + operandsOf code in
-        let g : (readOperands s ok (operandsOf code) 0 (at + 1) ≡ Next b) × (drop b s ≡ rest)
-        = subst (λ (x : ℕ). (readOperands s ok x 0 (at + 1) ≡ Next (at + 1 + x)) × (drop (at + 1 + x) s ≡ rest)) len
-        (reads-operands ok bs 0 (at + 1) rest (h .2) o) in
+        let g = reads-operands (c .fields) (c .tables) code at bs rest (h .2) len (h .0) o in
         (rw (← n, h .1, g .0), rw (h .1), rw (lt-ltb at (length s) (h .0), h .1), g .1, h .2)
 
     reads-none : (d : ℕ) (pred : Bool) (at code : ℕ) (bs rest : List ℕ) (p : Part) → partsOf code ≡ 0 → size p ≡ 1 + operandsOf code
@@ -366,9 +372,9 @@ module _ (s : List ℕ) where
     reads-use : (d : ℕ) (pred : Bool) (at x : ℕ) (rest : List ℕ) (p : Part) → size p ≡ 2
         → pred ≡ false → c .main ≡ true → 0 < x → x ≤ c .tables → named x ≡ p
         → drop at s ≡ 8 ∷ x ∷ rest → Reads (suc d) pred at p rest
-    unfolding built stands operandFits
+    unfolding built stands operandsWrong
     reads-use d pred at x rest p n h m l u is e =
-        let a = reads-head d pred at 8 (x ∷ []) rest e (rw (h, m)) refl (rw (lt-ltb 0 x l) (le-leb x (c .tables) u), tt) in
+        let a = reads-head d pred at 8 (x ∷ []) rest e (rw (h, m)) refl (rw (lt-ltb 0 x l, le-leb x (c .tables) u)) in
         let w = drop-head s (at + 1) x rest (a .4) in
         reads-none d pred at 8 (x ∷ []) rest p refl n a (rw (w .1) is)
 
@@ -378,36 +384,36 @@ module _ (s : List ℕ) where
 
     pub reads : (d : ℕ) (pred : Bool) (at : ℕ) (p : Part) (rest : List ℕ) → Fine c named d pred p
         → drop at s ≡ write p ++ rest → Reads d pred at p rest
-    unfolding Fine write built stands operandFits
+    unfolding Fine write built stands operandsWrong
     reads zero pred at p rest f e = absurd f
-    reads (suc d) pred at Id rest f e = reads-none d pred at 0 [] rest Id refl refl (reads-head d pred at 0 [] rest e refl refl tt) refl
-    reads (suc d) pred at Drop rest f e = reads-none d pred at 1 [] rest Drop refl refl (reads-head d pred at 1 [] rest e refl refl tt) refl
+    reads (suc d) pred at Id rest f e = reads-none d pred at 0 [] rest Id refl refl (reads-head d pred at 0 [] rest e refl refl refl) refl
+    reads (suc d) pred at Drop rest f e = reads-none d pred at 1 [] rest Drop refl refl (reads-head d pred at 1 [] rest e refl refl refl) refl
     reads (suc d) pred at (Test i v) rest f e =
-        let a = reads-head d pred at 2 (i ∷ v / 256 ∷ v % 256 ∷ []) rest e refl refl (lt-ltb i (c .fields) (f .0), (refl, (refl, tt))) in
+        let a = reads-head d pred at 2 (i ∷ v / 256 ∷ v % 256 ∷ []) rest e refl refl (rw (lt-ltb i (c .fields) (f .0))) in
         let w = value-of s at i v rest (a .4) in
         reads-none d pred at 2 (i ∷ v / 256 ∷ v % 256 ∷ []) rest (Test i v) refl refl a (rw (w .0, w .1))
     reads (suc d) pred at (Set i v) rest f e =
         let a = reads-head d pred at 3 (i ∷ v / 256 ∷ v % 256 ∷ []) rest e (ap not (f .0)) refl
-        (lt-ltb i (c .fields) (f .1), (refl, (refl, tt))) in
+        (rw (lt-ltb i (c .fields) (f .1))) in
         let w = value-of s at i v rest (a .4) in
         reads-none d pred at 3 (i ∷ v / 256 ∷ v % 256 ∷ []) rest (Set i v) refl refl a (rw (w .0, w .1))
     reads (suc d) pred at (Not p) rest f e =
-        let a = reads-head d pred at 4 [] (write p ++ rest) e refl refl tt in
+        let a = reads-head d pred at 4 [] (write p ++ rest) e refl refl refl in
         let l = reads d true (at + 1 + 0) p rest f (a .3) in
         let n : at + 1 + 0 + size p ≡ at + suc (size p) = omega arith in
         subst (ReadsTo (suc d) pred at (Not p) rest) n (a .0 ∙ rw (l .0), a .1 ∙ rw (l .1), a .2 ∙ rw (l .2), l .3)
     reads (suc d) pred at (Sum p q) rest f e =
-        let a = reads-head d pred at 5 [] (write p ++ (write q ++ rest)) (append-under (λ l. 5 ∷ l) at p q rest e) refl refl tt in
+        let a = reads-head d pred at 5 [] (write p ++ (write q ++ rest)) (append-under (λ l. 5 ∷ l) at p q rest e) refl refl refl in
         reads-two d pred at 5 [] Sum p q rest refl (omega arith) a (λ x y. refl)
         (λ b r h. reads d pred b p r (f .0) h) (λ b r h. reads d pred b q r (f .1) h)
     reads (suc d) pred at (Seq p q) rest f e =
-        let a = reads-head d pred at 6 [] (write p ++ (write q ++ rest)) (append-under (λ l. 6 ∷ l) at p q rest e) refl refl tt in
+        let a = reads-head d pred at 6 [] (write p ++ (write q ++ rest)) (append-under (λ l. 6 ∷ l) at p q rest e) refl refl refl in
         reads-two d pred at 6 [] Seq p q rest refl (omega arith) a (λ x y. refl)
         (λ b r h. reads d pred b p r (f .0) h) (λ b r h. reads d pred b q r (f .1) h)
     reads (suc d) pred at (Beside i j p q) rest f e =
         let k : ℕ = 2 ^ c .fields in
         let a = reads-head d pred at 7 (i ∷ j ∷ []) (write p ++ (write q ++ rest)) (append-under (λ l. 7 ∷ i ∷ j ∷ l) at p q rest e)
-        (ap not (f .0)) refl (lt-ltb i k (f .1), (lt-ltb j k (f .2), tt)) in
+        (ap not (f .0)) refl (rw (lt-ltb i k (f .1), lt-ltb j k (f .2))) in
         let w = masks-of s at i j (write p ++ (write q ++ rest)) (a .4) in
         reads-two d pred at 7 (i ∷ j ∷ []) (Beside i j) p q rest refl (omega arith) a (λ x y. rw (w .0, w .1))
         (λ b r h. reads d pred b p r (f .3) h) (λ b r h. reads d pred b q r (f .4) h)

@@ -9,7 +9,7 @@ use Rattle.rules.specs.Parts.{Part, Id, Drop, Test, Set, Not, Sum, Seq, 
 use Rattle.rules.specs.Typing.{tested, written, rightMasks, fitMasks, wrongs}
 use Rattle.rules.specs.Books.{entries, bytesOf, masksFit}
 use Rattle.rules.specs.Checks.{firstFailed}
-use Rattle.rules.specs.Reading.{byteIf, stands, operandFits, readOperands, readPart, readBody, bodyStart}
+use Rattle.rules.specs.Reading.{byteIf, stands, operandsWrong, readOperands, readPart, readBody, bodyStart}
 use Rattle.rules.specs.Reading.{readEntry, readEntries, masksRight, after, built, partAt, bodyAt, useAt, mainOf}
 use Rattle.rules.specs.Reading.{tablesFrom, policyOf, wrongBody, misfit, wrongsIn, misfitsIn, typingFaults}
 use Rattle.rules.specs.Reading.{formChecks, bookChecks, sizesOf, verdict}
@@ -250,7 +250,7 @@ pub places : map said groups ≡ map expected groups
 unfolding layoutBooks formBooks kindBooks bodyBooks wrongBooks misfitBooks rightBooks orderBooks
     contents bodies book drops nested
     apart within write parts deep tested written rightMasks fitMasks wrongs entries bytesOf masksFit
-    byteIf stands operandFits readOperands readPart readBody bodyStart readEntry readEntries masksRight
+    byteIf stands operandsWrong readOperands readPart readBody bodyStart readEntry readEntries masksRight
     after built partAt bodyAt useAt mainOf tablesFrom policyOf wrongBody misfit wrongsIn misfitsIn typingFaults
     firstFailed formChecks bookChecks sizesOf verdict
     refusalSays verdictSays

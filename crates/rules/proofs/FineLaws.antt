@@ -15,7 +15,7 @@ use Rattle.rules.specs.Typing.{tested, written}
 use Rattle.rules.specs.Books.{mostDepth, Entry, Policy, entries, useOf, noEntry, tableOf, Scope, scopeOf, noUse}
 use Rattle.rules.specs.Books.{Fine, masksFit, OfBody, OfEach, WellFormed}
 use Rattle.rules.proofs.MaskLaws.{has-and}
-use Rattle.rules.proofs.Decoding.{and-was}
+use Rattle.rules.proofs.ReadingLaws.{and-was}
 use Rattle.rules.proofs.Whole.{FineBody}
 use Rattle.rules.proofs.WrittenBytes.{masks-below}
 use Rattle.rules.proofs.FieldsBelow.{FieldsBelow}

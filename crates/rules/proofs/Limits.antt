@@ -11,7 +11,7 @@ use Rattle.rules.specs.Parts.{Part, Id, Drop, Set, Not, Sum, Seq, Beside
 use Rattle.rules.specs.Typing.{tested, written, rightMasks, fitMasks, wrongs}
 use Rattle.rules.specs.Books.{Entry, noEntry, entries, bytesOf, contents, bodies, writeBook, masksFit}
 use Rattle.rules.specs.Checks.{firstFailed}
-use Rattle.rules.specs.Reading.{formChecks, bookChecks, byteIf, stands, operandFits, readOperands, readPart, readBody, bodyStart}
+use Rattle.rules.specs.Reading.{formChecks, bookChecks, byteIf, stands, operandsWrong, readOperands, readPart, readBody, bodyStart}
 use Rattle.rules.specs.Reading.{readEntry, readEntries, masksRight, after, built, partAt, bodyAt, useAt, mainOf}
 use Rattle.rules.specs.Reading.{tablesFrom, policyOf, wrongBody, misfit, wrongsIn, misfitsIn, typingFaults}
 use Rattle.rules.specs.Reading.{sizesOf, verdict}
@@ -100,7 +100,7 @@ pub both-sides :
 unfolding has apart within less padded passes put mix orderOf insert union keep member pairsInto
     write parts deep namesOpen tested written rightMasks fitMasks wrongs
     entries bytesOf contents bodies writeBook masksFit
-    byteIf stands operandFits readOperands readPart readBody bodyStart readEntry readEntries masksRight
+    byteIf stands operandsWrong readOperands readPart readBody bodyStart readEntry readEntries masksRight
     after built partAt bodyAt useAt mainOf tablesFrom policyOf wrongBody misfit wrongsIn misfitsIn typingFaults firstFailed formChecks bookChecks sizesOf verdict
     each out steps room own widest width
     join place enter finish leave next live move run counted made used lacking stuckSteps stuckIn

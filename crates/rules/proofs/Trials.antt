@@ -10,7 +10,7 @@ use Rattle.rules.specs.Parts.{write, parts, deep, namesOpen}
 use Rattle.rules.specs.Typing.{tested, written, rightMasks, fitMasks, wrongs}
 use Rattle.rules.specs.Books.{entries, bytesOf, masksFit}
 use Rattle.rules.specs.Checks.{firstFailed}
-use Rattle.rules.specs.Reading.{formChecks, bookChecks, byteIf, stands, operandFits, readOperands, readPart, readBody, bodyStart}
+use Rattle.rules.specs.Reading.{formChecks, bookChecks, byteIf, stands, operandsWrong, readOperands, readPart, readBody, bodyStart}
 use Rattle.rules.specs.Reading.{readEntry, readEntries, masksRight, after, built, partAt, bodyAt, useAt, mainOf}
 use Rattle.rules.specs.Reading.{tablesFrom, policyOf, wrongBody, misfit, wrongsIn, misfitsIn, typingFaults}
 use Rattle.rules.specs.Reading.{sizesOf, verdict}
@@ -98,7 +98,7 @@ unfolding trials trial answered expected buffer
     padded passes put mix orderOf insert union keep member pairsInto valuesOf
     write parts deep namesOpen tested written rightMasks fitMasks wrongs
     entries bytesOf masksFit
-    byteIf stands operandFits readOperands readPart readBody bodyStart readEntry readEntries masksRight
+    byteIf stands operandsWrong readOperands readPart readBody bodyStart readEntry readEntries masksRight
     after built partAt bodyAt useAt mainOf tablesFrom policyOf wrongBody misfit wrongsIn misfitsIn typingFaults firstFailed formChecks bookChecks sizesOf verdict
     each out steps room own widest width
     join place enter finish leave next live move run counted made used lacking stuckSteps stuckIn

@@ -6,7 +6,7 @@ use lib.Bits.{bitOr}
 use Rattle.rules.specs.Masks.{apart, within, Sub}
 use Rattle.rules.specs.Parts.{Part}
 use Rattle.rules.specs.Typing.{tested, written, rightMasks, rightBeside, fitMasks, fits}
-use Rattle.rules.proofs.Decoding.{and-was}
+use Rattle.rules.proofs.ReadingLaws.{and-was}
 use Rattle.rules.proofs.MaskLaws.{Off, apart-off, apart-off-r, apart-turned, within-sub}
 
 -- a concurrent part is right: what each side writes, and that neither side sees the other's fields

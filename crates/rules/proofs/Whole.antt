@@ -17,7 +17,8 @@ use Rattle.rules.specs.Books.{writeBook, firstBody, startIn, useOf, noEn
 use Rattle.rules.specs.Books.{masksFit, OfBody, OfEach, WellFormed}
 use Rattle.rules.specs.Reading.{readBody, fieldsOf, tablesOf, lengthAt, readsAt, writesAt, bodyStart, readEntry}
 use Rattle.rules.specs.Reading.{readEntries, masksRight, partAt, bodyAt, useAt, mainOf, tablesFrom, policyOf}
-use Rattle.rules.proofs.Decoding.{size-positive, Named, populated, unpopulated, Names, then-was, and-was}
+use Rattle.rules.proofs.Decoding.{size-positive, Named, populated, unpopulated, Names, then-was}
+use Rattle.rules.proofs.ReadingLaws.{and-was}
 use Rattle.rules.proofs.Decoding.{body-read, body-reads}
 use Rattle.rules.proofs.Standing.{Stands, AllStand, start-stands, book-stands, written-stands}
 

@@ -13,7 +13,7 @@ use Rattle.rules.specs.Masks.{apart, inFields}
 use Rattle.rules.specs.Parts.{Part, Id, Drop, Test, Set, Not, Sum, Seq, Beside, Table, Open, write}
 use Rattle.rules.specs.Books.{mostFields, mostTables, Entry, Policy, entries, bytesOf, contents, bodies, Bytes}
 use Rattle.rules.specs.Books.{writeBook, Scope, scopeOf, Fine, masksFit, OfBody, OfEach, WellFormed}
-use Rattle.rules.proofs.Decoding.{and-was}
+use Rattle.rules.proofs.ReadingLaws.{and-was}
 use Rattle.rules.proofs.Whole.{FineBody}
 
 bytes-none : Bytes []

@@ -5,7 +5,8 @@ use mathlib.Core.Bool.{Bool, true, false, not, cond, _&&_, _||_}
 use mathlib.Core.List.{List, [], _∷_, _++_}
 use mathlib.Core.Option.{Option, none, some}
 use lib.Dec.{ltb, leb, eqb}
-use lib.ListN.{length, getD, take}
+use lib.ListN.{length, getD, take, drop}
+use Rattle.rules.specs.declared.Head.{Head}
 use Rattle.rules.specs.declared.Reading.{Reading}
 use Rattle.rules.specs.declared.Reading.the-variants.{Next, Wrong}
 use Rattle.rules.specs.declared.Reason.the-variants.{BookLength, Counts, Lengths, EntryMasks, Form, Limits, Typing}
@@ -39,32 +40,45 @@ standing main pred = true ∷ true ∷ true ∷ not pred ∷ true ∷ true ∷ t
 unfoldable pub stands : Bool → Bool → ℕ → Bool
 stands main pred code = getD (standing main pred) code false
 
--- may byte b be operand i, by code 0 to 8: "a field of k or more, a mask with a bit at k or above, and a table number
--- outside 1 to m cannot stand"
-abbrev pub anyByte : ℕ → ℕ → Bool
-anyByte i b = true
+-- the first operand that cannot stand, by its number, of those that are there, by code 0 to 8: "a field of k or more, a mask
+-- with a bit at k or above, and a table number outside 1 to m cannot stand"
+abbrev pub anyOperands : List ℕ → Option ℕ
+anyOperands o = none
 
-abbrev pub fieldFirst : ℕ → ℕ → ℕ → Bool
-fieldFirst k zero b = ltb b k
-fieldFirst k (suc i) b = true
+abbrev pub fieldWrong : ℕ → List ℕ → Option ℕ
+fieldWrong k [] = none
+fieldWrong k (f ∷ o) = cond (ltb f k) none (some 0)
 
-abbrev pub maskBelow : ℕ → ℕ → ℕ → Bool
-maskBelow k i b = inFields k b
+abbrev pub later : Option ℕ → Option ℕ
+later none = none
+later (some i) = some (suc i)
 
-abbrev pub tableUpTo : ℕ → ℕ → ℕ → Bool
-tableUpTo m i b = ltb 0 b && leb b m
+abbrev pub masksWrong : ℕ → List ℕ → Option ℕ
+masksWrong k [] = none
+masksWrong k (w ∷ o) = cond (inFields k w) (later (masksWrong k o)) (some 0)
 
-abbrev pub operandTests : ℕ → ℕ → List (ℕ → ℕ → Bool)
+abbrev pub tableWrong : ℕ → List ℕ → Option ℕ
+tableWrong m [] = none
+tableWrong m (x ∷ o) = cond (ltb 0 x && leb x m) none (some 0)
+
+abbrev pub operandTests : ℕ → ℕ → List (List ℕ → Option ℕ)
 operandTests k m =
-    anyByte ∷ anyByte ∷ fieldFirst k ∷ fieldFirst k ∷ anyByte ∷ anyByte ∷ anyByte ∷ maskBelow k ∷ tableUpTo m ∷ []
+    anyOperands ∷ anyOperands ∷ fieldWrong k ∷ fieldWrong k ∷ anyOperands ∷ anyOperands ∷ anyOperands ∷ masksWrong k ∷ tableWrong m ∷ []
 
-unfoldable pub operandFits : ℕ → ℕ → ℕ → ℕ → ℕ → Bool
-operandFits k m code = getD (operandTests k m) code anyByte
+unfoldable pub operandsWrong : ℕ → ℕ → ℕ → List ℕ → Option ℕ
+operandsWrong k m code = getD (operandTests k m) code anyOperands
 
--- n operand bytes, from number i on
-unfoldable pub readOperands : List ℕ → (ℕ → ℕ → Bool) → ℕ → ℕ → ℕ → Reading
-readOperands s ok zero i at = Next at
-readOperands s ok (suc n) i at = andThen (byteIf s (ok i) at) (readOperands s ok n (suc i))
+-- n operands from a place on, judged together: the first that cannot stand, or the end where they are cut
+abbrev pub judged : List ℕ → ℕ → ℕ → Option ℕ → Reading
+judged s n at none = cond (leb (at + n) (length s)) (Next (at + n)) (Wrong (length s))
+judged s n at (some i) = Wrong (at + i)
+
+-- the operands of a code at a place, as many as there are
+abbrev pub operandsAt : List ℕ → ℕ → ℕ → List ℕ
+operandsAt s code at = take (operandsOf code) (drop (at + 1) s)
+
+unfoldable pub readOperands : List ℕ → ℕ → ℕ → ℕ → ℕ → Reading
+readOperands s k m code at = judged s (operandsOf code) (at + 1) (operandsWrong k m code (operandsAt s code at))
 
 -- n parts one after the other
 abbrev pub readTimes : ℕ → (ℕ → Reading) → ℕ → Reading
@@ -76,7 +90,7 @@ unfoldable pub readPart : List ℕ → Scope → ℕ → Bool → ℕ → Readin
 readPart s c zero pred at = andThen (byteIf s (stands (c .main) pred) at) (λ a. Wrong at)
 readPart s c (suc d) pred at =
     andThen (byteIf s (stands (c .main) pred) at) λ a.
-    andThen (readOperands s (operandFits (c .fields) (c .tables) (getD s at 0)) (operandsOf (getD s at 0)) 0 a)
+    andThen (readOperands s (c .fields) (c .tables) (getD s at 0) at)
     (readTimes (partsOf (getD s at 0)) (readPart s c d (eqb (getD s at 0) 4 || pred)))
 
 -- "A body is exactly one policy": it ends where s ends
@@ -128,9 +142,28 @@ masksRight s (suc n) x = masksFit (fieldsOf s) (readsAt s x) (writesAt s x) && m
 
 -- ---- the decoder: what the bytes say, whether they are well formed or not
 
+-- the head of the part at a place: what its code byte and its operands say, by code, and where the parts below it begin
+abbrev pub head : List ℕ → ℕ → Head
+head s at = record {
+  code = getD s at 0;
+  field = getD s (at + 1) 0;
+  value = numberAt s (at + 2);
+  left = getD s (at + 1) 0;
+  right = getD s (at + 2) 0;
+  table = getD s (at + 1) 0;
+  from = at + 1 + operandsOf (getD s at 0);
+}
+
+-- past the end stands nothing, and what would follow begins there too
+abbrev pub noHead : ℕ → Head
+noHead at = record { code = 0; field = 0; value = 0; left = 0; right = 0; table = 0; from = at }
+
+unfoldable pub headAt : List ℕ → ℕ → Head
+headAt s at = cond (ltb at (length s)) (head s at) (noHead at)
+
 -- where the parts below the part at a place begin
 abbrev pub below : List ℕ → ℕ → ℕ
-below s at = at + 1 + operandsOf (getD s at 0)
+below s at = head s at .from
 
 abbrev pub skip : ℕ → (ℕ → ℕ) → ℕ → ℕ
 skip zero f at = at
@@ -145,8 +178,8 @@ after s (suc d) at = cond (ltb at (length s)) (skip (partsOf (getD s at 0)) (aft
 unfoldable pub built : List ℕ → (ℕ → Part) → ℕ → ℕ → Part → Part → Part
 built s named at code l r =
     getD
-    (Id ∷ Drop ∷ Test (getD s (at + 1) 0) (numberAt s (at + 2)) ∷ Set (getD s (at + 1) 0) (numberAt s (at + 2))
-    ∷ Not l ∷ Sum l r ∷ Seq l r ∷ Beside (getD s (at + 1) 0) (getD s (at + 2) 0) l r ∷ named (getD s (at + 1) 0) ∷ []) code Id
+    (Id ∷ Drop ∷ Test (head s at .field) (head s at .value) ∷ Set (head s at .field) (head s at .value)
+    ∷ Not l ∷ Sum l r ∷ Seq l r ∷ Beside (head s at .left) (head s at .right) l r ∷ named (head s at .table) ∷ []) code Id
 
 -- the part at a place, at most d deep, where a use of table x stands for `named x`
 unfoldable pub partAt : List ℕ → (ℕ → Part) → ℕ → ℕ → Part

@@ -17,6 +17,18 @@ pub struct Shape {
     pub parts: usize,
 }
 
+// The head of a part: its code, its operands by what each code takes them for (field and value of a test or set, the fields that
+// each side of a concurrent part may write, the table that is used), and where the parts below it begin.
+pub struct Head {
+    pub code: u8,
+    pub field: u8,
+    pub value: u16,
+    pub left: u8,
+    pub right: u8,
+    pub table: u8,
+    pub from: usize,
+}
+
 // Next place, or the place of the first byte that cannot stand there.
 pub enum Reading {
     Next(usize),

@@ -8,35 +8,40 @@ use lib.ListN.{length, getD, set, length-set}
 use lib.Seq.{getD-set-same, getD-set-other}
 use Rattle.rules.specs.declared.Reading.{Reading}
 use Rattle.rules.specs.declared.Reading.the-variants.{Next, Wrong}
-use Rattle.rules.specs.Reading.{readOperands, operandFits, fieldsOf, tablesOf}
+use Rattle.rules.specs.declared.Head.{Head}
+use Rattle.rules.specs.Codes.{operandsOf}
+use Rattle.rules.specs.Reading.{readOperands, head, headAt, fieldsOf, tablesOf}
+use Rattle.rules.proofs.ReadingLaws.{head-is, operands-were}
+use Rattle.book.specs.Operands.{Within}
 use Rattle.typing.specs.declared.Walked.{Walked}
 use Rattle.typing.specs.declared.Walked.the-variants.{On, Off}
 use Rattle.typing.specs.Walking.{Going, andOn, walked, openOf, Kept, Asked, BesideAsked, Left, Told, tallyOf}
-use Rattle.typing.specs.Walking.{placeIn, Moved, Bare, Joins, MasksKnown, refusedAt, wired, rightStates, faultAfter}
+use Rattle.typing.specs.Walking.{placeIn, Moved, Bare, Joins, refusedAt, wired, rightStates, faultAfter}
 use Rattle.typing.proofs.TallyLaws.{same-tally, entered, bared, met}
 use Rattle.typing.proofs.WalkLaws.{beside-stop, walk-beside}
 use Rattle.typing.proofs.CycleLaws.{stopped-left, told-off, told-on}
 
 module _ (s marks uses : List ℕ) (st d way : ℕ) (a : BesideAsked s marks uses st d way) (ops : Reading)
-    (eo : ops ≡ readOperands s (operandFits (fieldsOf s) (tablesOf s) 7) 2 0 (placeIn st + 1)) (known : MasksKnown s (placeIn st) ops) where
+    (eo : ops ≡ readOperands s (fieldsOf s) (tablesOf s) 7 (placeIn st)) (known : Within (length s) ops) where
   pub beside-refused : (b r : ℕ) → ops ≡ Wrong b → r ≡ refusedAt ops
       → Left s (openOf way) (walked s way (suc d) (tallyOf st marks uses)) r marks uses
+  unfolding Within
   beside-refused b r e q =
       let k : b ≤ length s = rw e at known in
       stopped-left s (openOf way) b r (walked s way (suc d) (tallyOf st marks uses)) marks uses
       (beside-stop s (a .sound) way d b (tallyOf st marks uses) (a .code) (a .free) (a .inside) (sym eo ∙ e)) (q ∙ rw e) k
 
   module _ (from : ℕ) (en : ops ≡ Next from) where
-    pub inside : (placeIn st + 3 ≤ length s) × (from ≡ placeIn st + 1 + 2)
-    inside = rw en at known
+    inside : (placeIn st + 1 + operandsOf 7 ≤ length s) × (from ≡ placeIn st + 1 + operandsOf 7)
+    inside = let w = operands-were s (fieldsOf s) (tablesOf s) 7 (placeIn st) from (sym eo ∙ en) in (w .1, w .0)
 
     goes : walked s way (suc d) (tallyOf st marks uses)
         ≡ andOn (walked s (way + 4) d (entered (openOf way) (tallyOf st marks uses))) (λ l. andOn (walked s (way + 4) d (bared l))
-        (λ r. Going (met (getD s (placeIn st + 1) 0) (getD s (placeIn st + 2) 0) (tallyOf st marks uses) l r)))
+        (λ r. Going (met (head s (placeIn st) .left) (head s (placeIn st) .right) (tallyOf st marks uses) l r)))
     goes = walk-beside s (a .sound) way d from (tallyOf st marks uses) (a .code) (a .free) (a .inside) (sym eo ∙ en) (inside .1)
 
     -- into the first side
-    module _ (level y z : ℕ) (n : List ℕ) (el : level ≡ openOf way) (b : Bare st y) (v : Moved y 2 z)
+    module _ (level y z : ℕ) (n : List ℕ) (el : level ≡ openOf way) (b : Bare st y) (v : Moved y (operandsOf 7) z)
         (em : n ≡ set marks 1 (max (getD marks 1 0) (level + 1))) where
       marked : (getD n 0 0 ≡ getD marks 0 0) × (getD n 1 0 ≡ max (getD marks 1 0) (openOf way + 1)) × (length n ≡ 2)
       marked =
@@ -106,7 +111,7 @@ module _ (s marks uses : List ℕ) (st d way : ℕ) (a : BesideAsked s marks use
 
             both : walked s way (suc d) (tallyOf st marks uses)
                 ≡ andOn (walked s (way + 4) d (tallyOf c m1 u1))
-                (λ r. Going (met (getD s (placeIn st + 1) 0) (getD s (placeIn st + 2) 0) (tallyOf st marks uses) (tallyOf l m1 u1) r))
+                (λ r. Going (met (head s (placeIn st) .left) (head s (placeIn st) .right) (tallyOf st marks uses) (tallyOf l m1 u1) r))
             both = goes ∙ rw (← first-tally, left .0, ← second-tally)
 
             module _ (y2 : Walked) (m2 u2 : List ℕ) (t2 : Told s (openOf (way + 4)) (walked s (way + 4) d (tallyOf c m1 u1)) y2 m2 u2) where
@@ -125,15 +130,18 @@ module _ (s marks uses : List ℕ) (st d way : ℕ) (a : BesideAsked s marks use
                 pub two-marks : length m2 ≡ 2
                 two-marks = right .1
 
-                pub beside-left : (ok : Bool) (f : List ℕ) (j : ℕ)
-                    → ok ≡ rightStates (getD s (placeIn st + 1) 0) (getD s (placeIn st + 2) 0) l r
+                pub beside-left : (h : Head) (ok : Bool) (f : List ℕ) (j : ℕ) → h ≡ headAt s (placeIn st)
+                    → ok ≡ rightStates (h .left) (h .right) l r
                     → f ≡ set m2 0 (faultAfter (getD marks 0 0) ok (placeIn st) (getD m2 0 0))
-                    → Joins st l r (getD s (placeIn st + 1) 0) (getD s (placeIn st + 2) 0) j
+                    → Joins st l r (h .left) (h .right) j
                     → Left s (openOf way) (walked s way (suc d) (tallyOf st marks uses)) j f u2
                 unfolding Left
-                beside-left ok f j eok ef v2 =
-                    let wp = getD s (placeIn st + 1) 0 in
-                    let wq = getD s (placeIn st + 2) 0 in
+                beside-left h ok f j eh seen ef joins =
+                    let here : h ≡ head s (placeIn st) = eh ∙ head-is s (placeIn st) (a .inside) in
+                    let wp = head s (placeIn st) .left in
+                    let wq = head s (placeIn st) .right in
+                    let eok : ok ≡ rightStates wp wq l r = rw here at seen in
+                    let v2 : Joins st l r wp wq j = rw here at joins in
                     let x0 : ℕ = faultAfter (getD marks 0 0) ok (placeIn st) (getD m2 0 0) in
                     let f0 : getD f 0 0 ≡ x0 = ap (λ (i : List ℕ). getD i 0 0) ef ∙ getD-set-same m2 0 x0 0 (omega (arith, right .1)) in
                     let f1 : getD f 1 0 ≡ getD m2 1 0

@@ -15,7 +15,7 @@ use Rattle.rules.specs.Books.{Bytes, mostBytes, mostFields, mostTables, mostPar
 use Rattle.rules.specs.Checks.{noPlace, inBook}
 use Rattle.rules.specs.Reading.{fieldsOf, tablesOf, bodyStart, masksRight, readEntries, policyOf, wrongsIn, misfitsIn}
 use Rattle.rules.specs.Reading.{typingFaults, sizesOf, verdict}
-use Rattle.rules.proofs.Decoding.{and-was}
+use Rattle.rules.proofs.ReadingLaws.{and-was}
 use Rattle.rules.proofs.Whole.{Readable}
 use Rattle.rules.proofs.Acceptance.{Passed, passed-is}
 use Rattle.rules.proofs.Refusing.{LengthKept, CountsKept, LimitsKept, refused-length, refused-counts, refused-lengths, refused-masks}

@@ -9,21 +9,24 @@ use lib.Bits.{bitOr, or-zero-r}
 use lib.Dec.{eqb}
 use lib.ListN.{length, getD}
 use borrow.Author.Tests.{eq-eqb, ne-eqb, eqb-true, eqb-false, not-false}
+use Rattle.rules.specs.declared.Head.{Head}
 use Rattle.rules.specs.declared.Reading.{Reading}
 use Rattle.rules.specs.declared.Reading.the-variants.{Next, Wrong}
-use Rattle.rules.specs.Codes.{operandsOf, partsOf}
+use Rattle.rules.specs.declared.Shape.{Shape}
+use Rattle.rules.specs.Codes.{shapeAt, operandsOf, partsOf}
 use Rattle.rules.specs.Masks.{field}
 use Rattle.rules.specs.Parts.{Part, Id, write, size, parts}
 use Rattle.rules.specs.Typing.{tested, written}
-use Rattle.rules.specs.Books.{mostBytes, Scope}
-use Rattle.rules.specs.Reading.{readOperands, operandFits, stands, readPart, partAt, built, fieldsOf, tablesOf, readsAt, writesAt}
-use Rattle.rules.proofs.ReadingLaws.{part-wrong, byte-next, byte-wrong, then-next, stands-37, stands-8}
+use Rattle.rules.specs.Books.{mostBytes, mostTables, Scope}
+use Rattle.rules.specs.Reading.{readOperands, stands, readPart, head, headAt, partAt, built, fieldsOf, tablesOf, readsAt, writesAt}
+use Rattle.book.specs.Operands.{Within}
+use Rattle.rules.proofs.ReadingLaws.{head-is, operands-none, operands-were, use-known, part-wrong, byte-next, byte-wrong, then-next, stands-37, stands-8}
 use Rattle.rules.proofs.CodeLaws.{by-code}
 use Rattle.typing.proofs.TallyLaws.{use-few, use-room}
 use Rattle.typing.specs.declared.Walked.{Walked}
 use Rattle.typing.specs.declared.Walked.the-variants.{Off}
 use Rattle.typing.specs.Walking.{placeIn, testsIn, writesIn, Moved, Masked, Small, wired, WrongWithin, refusedAt}
-use Rattle.typing.specs.Walking.{FieldKnown, TableKnown, Leafed, Noted, noted, noteUse, shut, scopeAt, predOf, inMain}
+use Rattle.typing.specs.Walking.{LeafAsked, Leafed, Noted, noted, noteUse, shut, scopeAt, predOf, inMain}
 use Rattle.typing.specs.Walking.{openOf, leafAt, leafRead}
 
 pub off-small : (w : Walked) (a : ℕ) → w ≡ Off a → Small w → a ≤ mostBytes
@@ -39,61 +42,56 @@ pub wrong-refused : (r : Reading) (a n : ℕ) → r ≡ Wrong a → n ≡ a * 65
 wrong-refused r a n e h = h ∙ rw e
 
 -- a refusal by the operands
-pub wrong-within : (s : List ℕ) (K : List ℕ → ℕ → Reading → Type 0) (at a : ℕ) (r : Reading) → ((b : ℕ) → K s at (Wrong b) → b ≤ length s)
-    → length s ≤ mostBytes → r ≡ Wrong a → K s at r → WrongWithin r
-wrong-within s K at a r k h e w = let v : K s at (Wrong a) = rw e at w in rw e (omega (arith, k a v))
+pub wrong-within : (s : List ℕ) (a : ℕ) (r : Reading) → length s ≤ mostBytes → r ≡ Wrong a → Within (length s) r → WrongWithin r
+unfolding Within
+wrong-within s a r h e w =
+    let v : a ≤ length s = rw e at w in
+    rw e (omega (arith, v))
 
-pub leafed-wrong : (s : List ℕ) (K : List ℕ → ℕ → Reading → Type 0) (st at a n : ℕ) (p : Part) (r ro : Reading)
-    → ((b : ℕ) → K s at (Wrong b) → b ≤ length s) → r ≡ ro → r ≡ Wrong a → K s at r → n ≡ refusedAt r → Leafed s st p ro n
-leafed-wrong s K st at a n p r ro k q e w z =
-    let v : K s at (Wrong a) = rw e at w in
-    rw (← q, e) (z ∙ rw e, k a v)
+pub leafed-wrong : (s : List ℕ) (st a n : ℕ) (p : Part) (r ro : Reading) → r ≡ ro → r ≡ Wrong a → Within (length s) r → n ≡ refusedAt r
+    → Leafed s st p ro n
+unfolding Within
+leafed-wrong s st a n p r ro q e w z =
+    let v : a ≤ length s = rw e at w in
+    rw (← q, e) (z ∙ rw e, v)
 
-pub field-known : (s : List ℕ) (at e : ℕ) (r : Reading) → r ≡ Next e → FieldKnown s at r → FieldKnown s at (Next e)
-field-known s at e r q h = rw q at h
-
-pub table-known : (s : List ℕ) (at e : ℕ) (r : Reading) → r ≡ Next e → TableKnown s at r → TableKnown s at (Next e)
-table-known s at e r q h = rw q at h
-
--- what the masks and the place of a part with no parts below it come to
-pub leafed-next : (s : List ℕ) (st y z n t w code e : ℕ) (p : Part) (r ro : Reading) → r ≡ ro → r ≡ Next e → Masked st t w y → Moved y n z
-    → size p ≡ 1 + n → parts p ≡ 1 → tested p ≡ t → written p ≡ w → placeIn st + size p ≤ length s → Leafed s st p ro z
-leafed-next s st y z n t w code e p r ro q re m v hs hp ht hw l =
+-- what the masks and the place of a part with no parts below it come to, once its operands are read
+pub leafed-next : (s : List ℕ) (st y z t w code e : ℕ) (p : Part) (r : Reading)
+    → r ≡ readOperands s (fieldsOf s) (tablesOf s) code (placeIn st) → r ≡ Next e → Masked st t w y → Moved y (operandsOf code) z
+    → size p ≡ 1 + operandsOf code → parts p ≡ 1 → tested p ≡ t → written p ≡ w
+    → Leafed s st p (readOperands s (fieldsOf s) (tablesOf s) code (placeIn st)) z
+leafed-next s st y z t w code e p r q re m v hs hp ht hw =
+    let k = operands-were s (fieldsOf s) (tablesOf s) code (placeIn st) e (sym q ∙ re) in
     rw (← q, re) (
       omega (arith, m .place, v .place),
       omega (arith, m .parts, v .parts),
       v .masks .0 ∙ m .tests ∙ rw ht,
       v .masks .1 ∙ m .writes ∙ rw hw,
-      l,
+      omega (arith, k .1),
     )
 
--- below which codes parts stand
-pub parts-some : (c : ℕ) → 4 ≤ c → c < 8 → true ≡ not (eqb (partsOf c) 0)
-parts-some =
-    by-code (λ c. 4 ≤ c → c < 8 → true ≡ not (eqb (partsOf c) 0)) (λ h l. absurd (omega arith)) (λ h l. absurd (omega arith))
-    (λ h l. absurd (omega arith)) (λ h l. absurd (omega arith)) (λ h l. refl) (λ h l. refl) (λ h l. refl) (λ h l. refl)
-    (λ h l. absurd (omega arith)) (λ c h l. absurd (omega arith))
+-- the head that the code reads where a byte stands
+pub shown : (s : List ℕ) (at : ℕ) (h : Head) → at < length s → h ≡ headAt s at → h ≡ head s at
+shown s at h l e = e ∙ head-is s at l
 
-pub parts-none : (c : ℕ) → (c < 4) ⊎ (8 ≤ c) → false ≡ not (eqb (partsOf c) 0)
-parts-none =
-    by-code (λ c. (c < 4) ⊎ (8 ≤ c) → false ≡ not (eqb (partsOf c) 0)) (λ h. refl) (λ h. refl) (λ h. refl) (λ h. refl)
-    (⊎-elim (λ h. absurd (omega arith)) (λ h. absurd (omega arith))) (⊎-elim (λ h. absurd (omega arith)) (λ h. absurd (omega arith)))
-    (⊎-elim (λ h. absurd (omega arith)) (λ h. absurd (omega arith))) (⊎-elim (λ h. absurd (omega arith)) (λ h. absurd (omega arith)))
-    (λ h. refl) (λ c h. refl)
+-- masks that were read are those of the entry
+pub masked-by : (s : List ℕ) (x st r w y : ℕ) → r ≡ readsAt s x → w ≡ writesAt s x → Masked st (bitOr r w) w y
+    → Masked st (bitOr (readsAt s x) (writesAt s x)) (writesAt s x) y
+masked-by s x st r w y er ew m = rw (← er, ← ew) m
 
 -- each code's own part
 pub test-is : (s : List ℕ) (named : ℕ → Part) (at : ℕ) → let p = built s named at 2 Id Id in
-    (size p ≡ 1 + 3) × (parts p ≡ 1) × (tested p ≡ field (getD s (at + 1) 0)) × (written p ≡ 0)
+    (size p ≡ 1 + operandsOf 2) × (parts p ≡ 1) × (tested p ≡ field (head s at .field)) × (written p ≡ 0)
 unfolding built write parts tested written
 test-is s named at = (refl, refl, refl, refl)
 
 pub set-is : (s : List ℕ) (named : ℕ → Part) (at : ℕ) → let p = built s named at 3 Id Id in
-    (size p ≡ 1 + 3) × (parts p ≡ 1) × (tested p ≡ 0) × (written p ≡ field (getD s (at + 1) 0))
+    (size p ≡ 1 + operandsOf 3) × (parts p ≡ 1) × (tested p ≡ 0) × (written p ≡ field (head s at .field))
 unfolding built write parts tested written
 set-is s named at = (refl, refl, refl, refl)
 
-pub use-is : (s : List ℕ) (at : ℕ) → let p = built s (shut s) at 8 Id Id in let x = getD s (at + 1) 0 in
-    (size p ≡ 1 + 1) × (parts p ≡ 1) × (tested p ≡ bitOr (readsAt s x) (writesAt s x)) × (written p ≡ writesAt s x)
+pub use-is : (s : List ℕ) (at : ℕ) → let p = built s (shut s) at 8 Id Id in let x = head s at .table in
+    (size p ≡ 1 + operandsOf 8) × (parts p ≡ 1) × (tested p ≡ bitOr (readsAt s x) (writesAt s x)) × (written p ≡ writesAt s x)
     × ((o : ℕ) (l : List ℕ) → noted p o l ≡ noteUse x o l)
 unfolding built write parts tested written shut noted
 use-is s at = (refl, refl, refl, refl, λ o l. refl)
@@ -101,11 +99,11 @@ use-is s at = (refl, refl, refl, refl, λ o l. refl)
 -- a code with no parts below it, at any depth
 pub leaf-read : (s : List ℕ) (c : Scope) (d : ℕ) (pred : Bool) (at code : ℕ) → getD s at 0 ≡ code → at < length s
     → stands (c .main) pred code ≡ true → partsOf code ≡ 0
-    → readPart s c (suc d) pred at ≡ readOperands s (operandFits (c .fields) (c .tables) code) (operandsOf code) 0 (at + 1)
+    → readPart s c (suc d) pred at ≡ readOperands s (c .fields) (c .tables) code at
 unfolding readPart
 leaf-read s c d pred at code e h st z =
     rw (← byte-next s (stands (c .main) pred) at h (rw e st), e, z)
-    (then-next (readOperands s (operandFits (c .fields) (c .tables) code) (operandsOf code) 0 (at + 1)))
+    (then-next (readOperands s (c .fields) (c .tables) code at))
 
 pub leaf-stop : (s : List ℕ) (c : Scope) (d : ℕ) (pred : Bool) (at : ℕ) → at < length s → stands (c .main) pred (getD s at 0) ≡ false
     → readPart s c d pred at ≡ Wrong at
@@ -118,7 +116,7 @@ leaf-part s at code e = rw e
 module _ (s : List ℕ) (st way code r : ℕ) (u v : List ℕ) (e : getD s (placeIn st) 0 ≡ code) (h : placeIn st < length s) where
   pub leaf-on : stands (inMain way) (predOf way) code ≡ true → partsOf code ≡ 0
       → let p = built s (shut s) (placeIn st) code Id Id in
-      let ro = readOperands s (operandFits (fieldsOf s) (tablesOf s) code) (operandsOf code) 0 (placeIn st + 1) in
+      let ro = readOperands s (fieldsOf s) (tablesOf s) code (placeIn st) in
       Leafed s st p ro r × Noted (openOf way) p ro u v
       → Leafed s st (leafAt s (placeIn st)) (leafRead s way (placeIn st)) r
       × Noted (openOf way) (leafAt s (placeIn st)) (leafRead s way (placeIn st)) u v
@@ -141,46 +139,69 @@ unfolding noted built
 set-noted s at o u (Next e) = (refl, refl, λ n y a b h. omega (arith, h y))
 set-noted s at o u (Wrong a) = tt
 
-pub use-noted : (s : List ℕ) (at o e : ℕ) (u v : List ℕ) (r ro : Reading) → r ≡ ro → r ≡ Next e → v ≡ noteUse (getD s (at + 1) 0) o u
-    → getD s (at + 1) 0 < 16 → Noted o (built s (shut s) at 8 Id Id) ro u v
+pub use-noted : (s : List ℕ) (at o e : ℕ) (u v : List ℕ) (r ro : Reading) → r ≡ ro → r ≡ Next e → v ≡ noteUse (head s at .table) o u
+    → head s at .table < 16 → Noted o (built s (shut s) at 8 Id Id) ro u v
 use-noted s at o e u v r ro q re h l =
     rw (← q, re) (
       h ∙ sym (use-is s at .4 o u),
-      ap length h ∙ use-room u (getD s (at + 1) 0) o,
-      λ n y a b f. rw h (use-few u (getD s (at + 1) 0) o n y b l a f),
+      ap length h ∙ use-room u (head s at .table) o,
+      λ n y a b f. rw h (use-few u (head s at .table) o n y b l a f),
+    )
+
+-- a use of a table may be noted
+pub note-asked : (s u : List ℕ) (st e : ℕ) {way : ℕ} {h : Head} {r : Reading} → h ≡ head s (placeIn st)
+    → r ≡ readOperands s (fieldsOf s) (tablesOf s) 8 (placeIn st) → r ≡ Next e → LeafAsked s u st way
+    → (length u ≡ 32) × (h .table < 16) × (getD u (h .table) 0 < 65535)
+note-asked s u st e {h = h} eh q re a =
+    let k = use-known s (fieldsOf s) (tablesOf s) (placeIn st) e (sym q ∙ re) in
+    let x : h .table ≡ head s (placeIn st) .table = ap (λ (h : Head). h .table) eh in
+    (a .room, omega (arith, x, k .1, a .sound .tables), omega (arith, a .few (h .table), a .sound .size, a .inside))
+
+-- a use of a table, once its operand is read
+pub use-left : (s : List ℕ) (st y z o level e : ℕ) (u v : List ℕ) (h : Head) {r : Reading} → h ≡ head s (placeIn st)
+    → r ≡ readOperands s (fieldsOf s) (tablesOf s) 8 (placeIn st) → r ≡ Next e → tablesOf s ≤ mostTables → level ≡ o
+    → v ≡ noteUse (h .table) level u
+    → Masked st (bitOr (readsAt s (h .table)) (writesAt s (h .table))) (writesAt s (h .table)) y → Moved y (operandsOf 8) z
+    → let p = built s (shut s) (placeIn st) 8 Id Id in
+    let ro = readOperands s (fieldsOf s) (tablesOf s) 8 (placeIn st) in
+    Leafed s st p ro z × Noted o p ro u v
+use-left s st y z o level e u v h {r} eh q re few el ev m w =
+    let i = use-is s (placeIn st) in
+    let k = use-known s (fieldsOf s) (tablesOf s) (placeIn st) e (sym q ∙ re) in (
+      leafed-next s st y z _ _ 8 e _ r q re (rw eh at m) w (i .0) (i .1) (i .2) (i .3),
+      use-noted s (placeIn st) o e u v r _ q re (ev ∙ rw (eh, el)) (omega (arith, k .1)),
     )
 
 pub wrong-noted : (s : List ℕ) (o a : ℕ) (p : Part) (u v : List ℕ) (r ro : Reading) → r ≡ ro → r ≡ Wrong a → Noted o p ro u v
 wrong-noted s o a p u v r ro q re = rw (← q, re) tt
 
 -- id and drop
+plain-is : (s : List ℕ) (at code : ℕ) → code < 2 → (operandsOf code ≡ 0) × (let p = built s (shut s) at code Id Id in
+    (size p ≡ 1) × (parts p ≡ 1) × (tested p ≡ 0) × (written p ≡ 0))
+    × ((o : ℕ) (l : List ℕ) → noted (built s (shut s) at code Id Id) o l ≡ l)
+unfolding built write parts tested written noted
+plain-is s at zero h = (refl, (refl, refl, refl, refl), λ o l. refl)
+plain-is s at (suc zero) h = (refl, (refl, refl, refl, refl), λ o l. refl)
+plain-is s at (suc (suc c)) h = absurd (omega arith)
+
 pub plain-leaf : (s : List ℕ) (st way code r : ℕ) (u : List ℕ) → code < 2 → getD s (placeIn st) 0 ≡ code → placeIn st < length s
     → Moved st 0 r
     → let p = built s (shut s) (placeIn st) code Id Id in
-    let ro = readOperands s (operandFits (fieldsOf s) (tablesOf s) code) (operandsOf code) 0 (placeIn st + 1) in
+    let ro = readOperands s (fieldsOf s) (tablesOf s) code (placeIn st) in
     Leafed s st p ro r × Noted (openOf way) p ro u u
-unfolding built readOperands write parts tested written noted
-plain-leaf s st way zero r u l e h m = (
-  (
-    omega (arith, m .place),
-    omega (arith, m .parts),
-    m .masks .0 ∙ sym (or-zero-r (testsIn st)),
-    m .masks .1 ∙ sym (or-zero-r (writesIn st)),
-    omega arith,
-  ),
-  (refl, refl, λ n y a b h. omega (arith, h y)),
-)
-plain-leaf s st way (suc zero) r u l e h m = (
-  (
-    omega (arith, m .place),
-    omega (arith, m .parts),
-    m .masks .0 ∙ sym (or-zero-r (testsIn st)),
-    m .masks .1 ∙ sym (or-zero-r (writesIn st)),
-    omega arith,
-  ),
-  (refl, refl, λ n y a b h. omega (arith, h y)),
-)
-plain-leaf s st way (suc (suc c)) r u l e h m = absurd (omega arith)
+plain-leaf s st way code r u l e h m =
+    let i = plain-is s (placeIn st) code l in
+    let ro = operands-none s (fieldsOf s) (tablesOf s) code (placeIn st) (i .0) h in
+    rw (ro, i .1 .0, i .1 .1, i .1 .2, i .1 .3) (
+      (
+        omega (arith, m .place),
+        omega (arith, m .parts),
+        m .masks .0 ∙ sym (or-zero-r (testsIn st)),
+        m .masks .1 ∙ sym (or-zero-r (writesIn st)),
+        omega arith,
+      ),
+      (sym (i .2 (openOf way) u), refl, λ n y a b h. omega (arith, h y)),
+    )
 
 pub low-parts-none : (c : ℕ) → c < 2 → partsOf c ≡ 0
 low-parts-none zero h = refl
@@ -214,11 +235,6 @@ eight-stops way code e h = stands-8 (inMain way) (predOf way) code e ∙ go (eqb
     go true q = refl
     go false q = ne-eqb (way % 2) 0 (λ z. h (omega (arith, eqb-false (way / 2 % 2) 1 q)))
 
-pub set-read : (s : List ℕ) (k m a : ℕ) (r : Reading) → r ≡ readOperands s (operandFits k m 2) 3 0 a
-    → r ≡ readOperands s (operandFits k m 3) 3 0 a
-unfolding operandFits
-set-read s k m a r e = e
-
 pub seven-stops : (way code : ℕ) → code ≡ 7 → way / 2 % 2 ≡ 1 → stands (inMain way) (predOf way) code ≡ false
 seven-stops way code e h = stands-37 (inMain way) (predOf way) code (inr e) ∙ rw (eq-eqb (way / 2 % 2) 1 h)
 
@@ -231,6 +247,10 @@ five-six c h l = go (eqb c 5) refl
     go : (t : Bool) → eqb c 5 ≡ t → (c ≡ 5) ⊎ (c ≡ 6)
     go true q = inl (eqb-true c 5 q)
     go false q = inr (omega (arith, eqb-false c 5 q))
+
+-- whether parts stand below a code, by its row
+pub parts-told : (code : ℕ) (x : Shape) → x ≡ shapeAt code → (t : Bool) → t ≡ not (eqb (x .parts) 0) → t ≡ not (eqb (partsOf code) 0)
+parts-told code x e t h = rw e at h
 
 pub no-parts : (n : ℕ) (t : Bool) → t ≡ not (eqb n 0) → t ≡ false → n ≡ 0
 no-parts n t e q = eqb-true n 0 (not-false (eqb n 0) (sym e ∙ q))

@@ -1,7 +1,6 @@
 -- What is shown for the proofs of the code.
 pub mod MaskTests
 pub mod EntryLaws
-pub mod OperandLaws
 pub mod PackLaws
 pub mod LeafLaws
 pub mod TallyLaws

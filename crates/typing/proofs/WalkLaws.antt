@@ -12,9 +12,9 @@ use Rattle.rules.specs.declared.Reading.the-variants.{Next, Wrong}
 use Rattle.rules.specs.Codes.{operandsOf, partsOf}
 use Rattle.rules.specs.Parts.{Part, Id, Not, Sum, Seq, Beside, size}
 use Rattle.rules.specs.Books.{Scope, Bytes}
-use Rattle.rules.specs.Reading.{andThen, stands, readTimes, readOperands, operandFits, readPart, after, partAt, built, below}
+use Rattle.rules.specs.Reading.{andThen, stands, readTimes, readOperands, head, readPart, after, partAt, built, below}
 use Rattle.rules.specs.Reading.{fieldsOf, tablesOf, readsAt, writesAt}
-use Rattle.rules.proofs.ReadingLaws.{byte-short, byte-next, part-wrong, part-deep, then-next, stands-known, stands-37}
+use Rattle.rules.proofs.ReadingLaws.{operands-none, byte-short, byte-next, part-wrong, part-deep, then-next, stands-known, stands-37}
 use Rattle.rules.proofs.Decoding.{unpopulated, Names, read, read-end}
 use Rattle.rules.proofs.CodeLaws.{by-code}
 use Rattle.typing.specs.Walking.{Tally, told, Way, Going, Stopped, wayOf, andOn, walked, shut, scopeAt, predOf, inMain, openOf, Sound}
@@ -81,11 +81,12 @@ module _ (s : List ℕ) (way : ℕ) where
   -- ---- a negation
   not-read : (d at : ℕ) → at < length s → getD s at 0 ≡ 4
       → readPart s (scopeAt s way) (suc d) (predOf way) at ≡ readPart s (scopeAt s way) d true (at + 1)
-  unfolding readPart readOperands
+  unfolding readPart
   not-read d at h e =
       let st : stands (inMain way) (predOf way) (getD s at 0) ≡ true
       = stands-known (inMain way) (predOf way) (getD s at 0) (omega arith) (λ q. omega arith) in
-      rw (← byte-next s (stands (inMain way) (predOf way)) at h st, e) (then-next (readPart s (scopeAt s way) d true (at + 1)))
+      rw (← byte-next s (stands (inMain way) (predOf way)) at h st, e, operands-none s (fieldsOf s) (tablesOf s) 4 at refl h)
+      (then-next (readPart s (scopeAt s way) d true (at + 1)))
 
   not-part : (d at : ℕ) → getD s at 0 ≡ 4 → partAt s (shut s) (suc d) at ≡ Not (partAt s (shut s) d (at + 1))
   unfolding built
@@ -118,10 +119,10 @@ module _ (s : List ℕ) (sound : Sound s) (way : ℕ) where
       → stands (inMain way) (predOf way) code ≡ true → at < length s
       → readPart s (scopeAt s way) (suc d) (predOf way) at
       ≡ andThen (readPart s (scopeAt s way) d (predOf way) (at + 1 + 0)) (readPart s (scopeAt s way) d (predOf way))
-  unfolding readPart readOperands
+  unfolding readPart
   two-read d at code e n0 np n4 st h =
       let z : at + 1 + 0 ≡ at + 1 = omega arith in
-      rw (← byte-next s (stands (inMain way) (predOf way)) at h (rw e st), e, n0, np, n4, z)
+      rw (← byte-next s (stands (inMain way) (predOf way)) at h (rw e st), e, operands-none s (fieldsOf s) (tablesOf s) code at n0 h, np, n4, z)
       (then-same (readPart s (scopeAt s way) d (predOf way)) (readPart s (scopeAt s way) d (predOf way) (at + 1)))
 
   -- g is what the code builds of its two parts
@@ -176,7 +177,7 @@ module _ (s : List ℕ) (sound : Sound s) (way : ℕ) where
   -- ---- a concurrent part
   beside-read : (d at : ℕ) → getD s at 0 ≡ 7 → predOf way ≡ false → at < length s
       → readPart s (scopeAt s way) (suc d) (predOf way) at
-      ≡ andThen (readOperands s (operandFits (fieldsOf s) (tablesOf s) 7) 2 0 (at + 1))
+      ≡ andThen (readOperands s (fieldsOf s) (tablesOf s) 7 at)
       (readTimes 2 (readPart s (scopeAt s way) d (predOf way)))
   unfolding readPart
   beside-read d at e ep h =
@@ -185,7 +186,7 @@ module _ (s : List ℕ) (sound : Sound s) (way : ℕ) where
       rw (← byte-next s (stands (inMain way) (predOf way)) at h st, e)
 
   pub beside-stop : (d a : ℕ) (t : Tally) → getD s (t .at) 0 ≡ 7 → predOf way ≡ false → t .at < length s
-      → readOperands s (operandFits (fieldsOf s) (tablesOf s) 7) 2 0 (t .at + 1) ≡ Wrong a → walked s way (suc d) t ≡ Stopped a
+      → readOperands s (fieldsOf s) (tablesOf s) 7 (t .at) ≡ Wrong a → walked s way (suc d) t ≡ Stopped a
   unfolding walked
   beside-stop d a t e ep h w = rw (beside-read d (t .at) e ep h, w)
 
@@ -197,19 +198,19 @@ module _ (s : List ℕ) (sound : Sound s) (way : ℕ) where
 
   beside-part-is : (d at : ℕ) → getD s at 0 ≡ 7
       → partAt s (shut s) (suc d) at
-      ≡ Beside (getD s (at + 1) 0) (getD s (at + 2) 0) (partAt s (shut s) d (at + 1 + 2)) (partAt s (shut s) d (after s d (at + 1 + 2)))
+      ≡ Beside (head s at .left) (head s at .right) (partAt s (shut s) d (at + 1 + operandsOf 7)) (partAt s (shut s) d (after s d (at + 1 + operandsOf 7)))
   unfolding partAt built
   beside-part-is d at e = rw e
 
   pub walk-beside : (d e : ℕ) (t : Tally) → getD s (t .at) 0 ≡ 7 → predOf way ≡ false → t .at < length s
-      → readOperands s (operandFits (fieldsOf s) (tablesOf s) 7) 2 0 (t .at + 1) ≡ Next e → e ≡ t .at + 1 + 2
+      → readOperands s (fieldsOf s) (tablesOf s) 7 (t .at) ≡ Next e → e ≡ t .at + 1 + operandsOf 7
       → walked s way (suc d) t
       ≡ andOn (walked s (way + 4) d (entered (openOf way) t)) (λ l. andOn (walked s (way + 4) d (bared l))
-      (λ r. Going (met (getD s (t .at + 1) 0) (getD s (t .at + 2) 0) t l r)))
+      (λ r. Going (met (head s (t .at) .left) (head s (t .at) .right) t l r)))
   unfolding walked
   walk-beside d e t ec ep h w z =
       rw (beside-read d (t .at) ec ep h, w, z, beside-part-is d (t .at) ec, told-beside wp wq p q (openOf way) t, four .0, four .1, four .2)
-      (go (readPart s c d (predOf way) (t .at + 1 + 2)) refl)
+      (go (readPart s c d (predOf way) (t .at + 1 + operandsOf 7)) refl)
     where
       c : Scope
       c = scopeAt s way
@@ -218,16 +219,16 @@ module _ (s : List ℕ) (sound : Sound s) (way : ℕ) where
       f = readPart s c d (predOf way)
 
       wp : ℕ
-      wp = getD s (t .at + 1) 0
+      wp = head s (t .at) .left
 
       wq : ℕ
-      wq = getD s (t .at + 2) 0
+      wq = head s (t .at) .right
 
       p : Part
-      p = partAt s (shut s) d (t .at + 1 + 2)
+      p = partAt s (shut s) d (t .at + 1 + operandsOf 7)
 
       q : Part
-      q = partAt s (shut s) d (after s d (t .at + 1 + 2))
+      q = partAt s (shut s) d (after s d (t .at + 1 + operandsOf 7))
 
       o : ℕ
       o = openOf way
@@ -243,14 +244,14 @@ module _ (s : List ℕ) (sound : Sound s) (way : ℕ) where
       second m (Wrong a) = refl
       second m (Next a) = refl
 
-      go : (r : Reading) → f (t .at + 1 + 2) ≡ r
+      go : (r : Reading) → f (t .at + 1 + operandsOf 7) ≡ r
           → wayOf (andThen r (readTimes 1 f)) all
           ≡ andOn (wayOf r l) (λ u. andOn (wayOf (f (u .at)) (told (partAt s (shut s) d (u .at)) (suc o) (bared u)))
           (λ v. Going (met wp wq t u v)))
       go (Wrong a) w = refl
       go (Next m) w =
-          let g = read s bytes c (shut s) names d (predOf way) (t .at + 1 + 2) m w in
-          let n : m ≡ l .at = read-end s c (shut s) d (predOf way) (t .at + 1 + 2) m g in
-          let k : after s d (t .at + 1 + 2) ≡ l .at = g .0 ∙ n in
+          let g = read s bytes c (shut s) names d (predOf way) (t .at + 1 + operandsOf 7) m w in
+          let n : m ≡ l .at = read-end s c (shut s) d (predOf way) (t .at + 1 + operandsOf 7) m g in
+          let k : after s d (t .at + 1 + operandsOf 7) ≡ l .at = g .0 ∙ n in
           ap (λ (x : ℕ). wayOf (andThen (f x) (λ y. Next y)) all) n ∙ second m (f (l .at))
           ∙ ap (λ (x : ℕ). andOn (wayOf (f (l .at)) (told (partAt s (shut s) d x) (suc o) (bared l))) (λ v. Going (met wp wq t l v))) k

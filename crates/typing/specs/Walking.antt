@@ -239,19 +239,6 @@ abbrev pub refusedAt : Reading → ℕ
 refusedAt (Next e) = 0
 refusedAt (Wrong a) = a * 65536
 
--- what is known once the operands are read
-abbrev pub FieldKnown : List ℕ → ℕ → Reading → Type 0
-FieldKnown s at (Next e) = (at + 4 ≤ length s) × (getD s (at + 1) 0 < fieldsOf s)
-FieldKnown s at (Wrong a) = a ≤ length s
-
-abbrev pub TableKnown : List ℕ → ℕ → Reading → Type 0
-TableKnown s at (Next e) = (at + 2 ≤ length s) × (0 < getD s (at + 1) 0) × (getD s (at + 1) 0 ≤ tablesOf s)
-TableKnown s at (Wrong a) = a ≤ length s
-
-abbrev pub MasksKnown : List ℕ → ℕ → Reading → Type 0
-MasksKnown s at (Next e) = (at + 3 ≤ length s) × (e ≡ at + 1 + 2)
-MasksKnown s at (Wrong a) = a ≤ length s
-
 -- a concurrent part at hand, and depth below it
 pub record BesideAsked (s marks uses : List ℕ) (st d way : ℕ) : Type 0 where
   pub sound : Sound s

@@ -21,14 +21,13 @@ ghost use lib.Dec.{eqb};
 ghost use lib.ListN.{getD, length, set};
 ghost use Rattle.rules.specs.Codes.{operandsOf, partsOf};
 ghost use Rattle.rules.specs.Parts.{Id};
-ghost use Rattle.rules.specs.Masks.{inFields, field};
+ghost use Rattle.rules.specs.Masks.{field};
 ghost use Rattle.rules.specs.Typing.{fitMasks};
-ghost use Rattle.rules.specs.Reading.{operandFits, readOperands, fieldsOf, tablesOf, built, readsAt, writesAt, verdict};
+ghost use Rattle.rules.specs.Reading.{readOperands, fieldsOf, tablesOf, built, readsAt, writesAt, verdict};
 ghost use Rattle.rules.specs.Promises.{AcceptAnswer};
 ghost use Rattle.typing.specs.Walking.{placeIn, partsIn, testsIn, writesIn, Moved, Masked, Bare, Joins, rightStates};
 ghost use Rattle.typing.specs.Walking.{openOf, predOf, inMain, firstOf, faultAfter, noteUse, shut, tallyOf, walked};
-ghost use Rattle.typing.specs.Walking.{wired, Small, Apart, WrongWithin, refusedAt, Sound, FieldKnown, TableKnown};
-ghost use Rattle.typing.specs.Walking.{MasksKnown};
+ghost use Rattle.typing.specs.Walking.{wired, Small, Apart, WrongWithin, refusedAt, Sound};
 ghost use Rattle.typing.specs.Walking.{LeafAsked, leafRead, leafAt, Leafed, Noted, Asked, BesideAsked, Left, Told, BodyAsked};
 ghost use Rattle.typing.specs.Walking.{Body};
 ghost use Rattle.typing.specs.Summing.{Fronted, Cleared, So, Turned, Ends, Ended};
@@ -193,82 +192,6 @@ fn under_not(way: usize) -> usize
     if way / 2 % 2 == 1 { way } else { way + 2 }
 }
 
-// ---- the operands of a code at a place
-
-// Field and value of a test or a set.
-fn field_operand(s: &[u8], at: usize) -> Reading
-    requires { ⌜ (at < length (now s)) × (length (now s) ≤ 4096) ⌝ }
-    ensures { λ r. ⌜
-        (r ≡ readOperands (now (s .entry)) (operandFits (fieldsOf (now (s .entry))) (tablesOf (now (s .entry))) 2) 3 0 (at + 1))
-        × FieldKnown (now (s .entry)) at r ⌝ }
-{
-    let left = s.len() - at;
-    if left < 4 {
-        if left < 2 {
-            return Reading::Wrong(s.len());
-        }
-        if s[at + 1] < s[0] {
-            return Reading::Wrong(s.len());
-        }
-        return Reading::Wrong(at + 1);
-    }
-    if s[at + 1] < s[0] {
-        return Reading::Next(at + 4);
-    }
-    Reading::Wrong(at + 1)
-}
-
-// The number of a table.
-fn table_operand(s: &[u8], at: usize) -> Reading
-    requires { ⌜ (at < length (now s)) × (length (now s) ≤ 4096) × (2 ≤ length (now s)) ⌝ }
-    ensures { λ r. ⌜
-        (r ≡ readOperands (now (s .entry)) (operandFits (fieldsOf (now (s .entry))) (tablesOf (now (s .entry))) 8) 1 0 (at + 1))
-        × TableKnown (now (s .entry)) at r ⌝ }
-{
-    if s.len() - at < 2 {
-        return Reading::Wrong(s.len());
-    }
-    let x = s[at + 1];
-    if x == 0 {
-        return Reading::Wrong(at + 1);
-    }
-    if x <= s[1] {
-        return Reading::Next(at + 2);
-    }
-    Reading::Wrong(at + 1)
-}
-
-// Is no bit of a mask at k or above?
-fn small_mask(b: u8, k: u8) -> bool
-    requires { ⌜ k ≤ 8 ⌝ }
-    ensures { λ r. ⌜ r ≡ inFields k b ⌝ }
-{
-    (b as u16) < 1u16 << k
-}
-
-// The two masks of a concurrent part.
-fn mask_operands(s: &[u8], at: usize) -> Reading
-    requires { ⌜ (at < length (now s)) × (length (now s) ≤ 4096) × (fieldsOf (now s) ≤ 8) ⌝ }
-    ensures { λ r. ⌜
-        (r ≡ readOperands (now (s .entry)) (operandFits (fieldsOf (now (s .entry))) (tablesOf (now (s .entry))) 7) 2 0 (at + 1))
-        × MasksKnown (now (s .entry)) at r ⌝ }
-{
-    let left = s.len() - at;
-    if left < 2 {
-        return Reading::Wrong(s.len());
-    }
-    if !small_mask(s[at + 1], s[0]) {
-        return Reading::Wrong(at + 1);
-    }
-    if left < 3 {
-        return Reading::Wrong(s.len());
-    }
-    if !small_mask(s[at + 2], s[0]) {
-        return Reading::Wrong(at + 2);
-    }
-    Reading::Next(at + 3)
-}
-
 // ---- marks and uses
 
 // The larger of two marks.
@@ -320,37 +243,39 @@ fn note_use(uses: &mut [u16; 32], x: usize, level: u16)
 fn test_part(s: &[u8], st: u64) -> u64
     requires { ⌜ Sound (now s) × (placeIn st < length (now s)) × (partsIn st ≤ placeIn st) ⌝ }
     ensures { λ r. ⌜ Leafed (now (s .entry)) st (built (now (s .entry)) (shut (now (s .entry))) (placeIn st) 2 Id Id)
-        (readOperands (now (s .entry)) (operandFits (fieldsOf (now (s .entry))) (tablesOf (now (s .entry))) 2) 3 0 (placeIn st + 1)) r ⌝ }
+        (readOperands (now (s .entry)) (fieldsOf (now (s .entry))) (tablesOf (now (s .entry))) 2 (placeIn st)) r ⌝ }
 {
     let at = (st % WIDTH) as usize;
-    let ops = field_operand(s, at);
+    let ops = book::read_operands(s, 2, at);
     let Reading::Next(next) = ops else {
         return refused(ops);
     };
-    past(with_masks(st, field_bit(s[at + 1]), 0), 2)
+    let h = book::head_at(s, at);
+    past(with_masks(st, field_bit(h.field), 0), 2)
 }
 
 // A set of a field.
 fn set_part(s: &[u8], st: u64) -> u64
     requires { ⌜ Sound (now s) × (placeIn st < length (now s)) × (partsIn st ≤ placeIn st) ⌝ }
     ensures { λ r. ⌜ Leafed (now (s .entry)) st (built (now (s .entry)) (shut (now (s .entry))) (placeIn st) 3 Id Id)
-        (readOperands (now (s .entry)) (operandFits (fieldsOf (now (s .entry))) (tablesOf (now (s .entry))) 3) 3 0 (placeIn st + 1)) r ⌝ }
+        (readOperands (now (s .entry)) (fieldsOf (now (s .entry))) (tablesOf (now (s .entry))) 3 (placeIn st)) r ⌝ }
 {
     let at = (st % WIDTH) as usize;
-    let ops = field_operand(s, at);
+    let ops = book::read_operands(s, 3, at);
     let Reading::Next(next) = ops else {
         return refused(ops);
     };
-    past(with_masks(st, 0, field_bit(s[at + 1])), 3)
+    let h = book::head_at(s, at);
+    past(with_masks(st, 0, field_bit(h.field)), 3)
 }
 
 // A use of table x goes by the masks that its entry declares.
-fn use_masks(s: &[u8], st: u64, x: usize) -> u64
-    requires { ⌜ Sound (now s) × (x ≤ tablesOf (now s)) ⌝ }
+fn use_masks(s: &[u8], st: u64, x: u8) -> u64
+    requires { ⌜ Sound (now s) ⌝ }
     ensures { λ r. ⌜ Masked st (bitOr (readsAt (now (s .entry)) x) (writesAt (now (s .entry)) x)) (writesAt (now (s .entry)) x) r ⌝ }
 {
-    let r = s[4 + 4 * x];
-    let w = s[5 + 4 * x];
+    let r = book::reads_of(s, x);
+    let w = book::writes_of(s, x);
     with_masks(st, (r | w) as u64, w as u64)
 }
 
@@ -358,19 +283,19 @@ fn use_masks(s: &[u8], st: u64, x: usize) -> u64
 fn use_part(s: &[u8], uses: &mut [u16; 32], st: u64, way: usize) -> u64
     requires { ⌜ LeafAsked (now s) (now uses) st way ⌝ }
     ensures { λ r. ⌜ Leafed (now (s .entry)) st (built (now (s .entry)) (shut (now (s .entry))) (placeIn st) 8 Id Id)
-        (readOperands (now (s .entry)) (operandFits (fieldsOf (now (s .entry))) (tablesOf (now (s .entry))) 8) 1 0 (placeIn st + 1)) r
+        (readOperands (now (s .entry)) (fieldsOf (now (s .entry))) (tablesOf (now (s .entry))) 8 (placeIn st)) r
         × Noted (openOf way) (built (now (s .entry)) (shut (now (s .entry))) (placeIn st) 8 Id Id)
-        (readOperands (now (s .entry)) (operandFits (fieldsOf (now (s .entry))) (tablesOf (now (s .entry))) 8) 1 0 (placeIn st + 1))
+        (readOperands (now (s .entry)) (fieldsOf (now (s .entry))) (tablesOf (now (s .entry))) 8 (placeIn st))
         (now (uses .entry)) (now (uses .exit)) ⌝ }
 {
     let at = (st % WIDTH) as usize;
-    let ops = table_operand(s, at);
+    let ops = book::read_operands(s, 8, at);
     let Reading::Next(next) = ops else {
         return refused(ops);
     };
-    let x = s[at + 1] as usize;
-    note_use(uses, x, level_of(way));
-    past(use_masks(s, st, x), 8)
+    let h = book::head_at(s, at);
+    note_use(uses, h.table as usize, level_of(way));
+    past(use_masks(s, st, h.table), 8)
 }
 
 // A part with no parts below it.
@@ -408,10 +333,8 @@ fn leaf(s: &[u8], uses: &mut [u16; 32], st: u64, way: usize) -> u64
 fn has_parts(code: u8) -> bool
     ensures { λ r. ⌜ r ≡ not (eqb (partsOf code) 0) ⌝ }
 {
-    match code {
-        4 | 5 | 6 | 7 => true,
-        _ => false,
-    }
+    let shape = rules::shape_of(code);
+    shape.parts != 0
 }
 
 // ---- a part and all below it
@@ -458,7 +381,7 @@ fn beside_part(
         r (now (marks .exit)) (now (uses .exit)) ⌝ }
 {
     let at = (st % WIDTH) as usize;
-    let ops = mask_operands(s, at);
+    let ops = book::read_operands(s, 7, at);
     let Reading::Next(from) = ops else {
         return refused(ops);
     };
@@ -472,10 +395,9 @@ fn beside_part(
     let Walked::On(r) = right else {
         return wire(right);
     };
-    let wp = s[at + 1];
-    let wq = s[at + 2];
-    mark_fault(marks, before, right_states(wp, wq, l, r), at);
-    joined(st, l, r, wp, wq)
+    let h = book::head_at(s, at);
+    mark_fault(marks, before, right_states(h.left, h.right, l, r), at);
+    joined(st, l, r, h.left, h.right)
 }
 
 // The part at the state's place and all below it, at most depth deep. The last part below a code is walked in the loop.

@@ -2,12 +2,12 @@
 use native.Mathlib.Omega.{arith}
 use mathlib.Core.Path.{refl}
 use mathlib.Core.Logic.{inl, inr, ⊎-elim}
-use Rattle.typing.specs.Walking.{walked, tallyOf, openOf, MasksKnown}
+use Rattle.typing.specs.Walking.{walked, tallyOf, openOf}
 use Rattle.typing.proofs.LeafLaws.{seven-stops, seven-free, five-six, no-parts, other-codes, wrong-within}
 use Rattle.typing.proofs.CycleLaws.{Round, round-short, round-deep, round-stop, round-leaf, round-beside, round-not, round-off}
 use Rattle.typing.proofs.CycleLaws.{round-on, side-asked, off-fits, told-of, leaf-left, side-short, side-deep}
 use lib.ListN.{getD}
-use Rattle.typing.proofs.BesideLaws.{beside-refused, inside, first-asked, first-off, second-asked, second-off}
+use Rattle.typing.proofs.BesideLaws.{beside-refused, first-asked, first-off, second-asked, second-off}
 use Rattle.typing.proofs.BesideLaws.{two-marks, beside-left}
 use borrow.Author.Needs.{needs}
 use Prim.Native.Nat.{ℕ, _+_, _*_, _%_}
@@ -28,7 +28,8 @@ use Rattle.typing.proofs.leaf.Reads as leaf-reads
 use Rattle.typing.proofs.level_of.Reads as level-of-reads
 use Rattle.typing.proofs.mark_fault.Reads as mark-fault-reads
 use Rattle.typing.proofs.mark_level.Reads as mark-level-reads
-use Rattle.typing.proofs.mask_operands.Reads as mask-operands-reads
+use Rattle.book.proofs.read_operands.Reads as read-operands-reads
+use Rattle.book.proofs.head_at.Reads as head-at-reads
 use Rattle.typing.proofs.past.Reads as past-reads
 use Rattle.typing.proofs.refusal.Reads as refusal-reads
 use Rattle.typing.proofs.refused.Reads as refused-reads
@@ -58,8 +59,8 @@ abbrev μ-loop : walk-lts.MeasureT-loop
 module _ (t : ℕ) where
   abbrev beside-part-calls : beside-part-lts.Claims
   beside-part-calls = (
-    mask-operands-reads.Asked,
-    mask-operands-reads.Learnt,
+    read-operands-reads.Asked,
+    read-operands-reads.Learnt,
     refused-reads.Asked,
     refused-reads.Learnt,
     level-of-reads.Asked,
@@ -76,6 +77,8 @@ module _ (t : ℕ) where
     unwire-reads.Learnt,
     wire-reads.Asked,
     wire-reads.Learnt,
+    head-at-reads.Asked,
+    head-at-reads.Learnt,
     right-states-reads.Asked,
     right-states-reads.Learnt,
     mark-fault-reads.Asked,
@@ -86,28 +89,28 @@ module _ (t : ℕ) where
 
   beside-part-refused-requires : beside-part-lts.Need-refused-requires beside-part-calls (at beside-part-member t) beside-part.Post
   beside-part-refused-requires c κs =
-      let at-mask-operands = c .before .before in
-      let start = at-mask-operands .before .before in
-      wrong-within _ MasksKnown _ _ _ (λ b h. h) (start .pre .1 .sound .size) (c .enum-told .given .1)
-      (at-mask-operands .mask-operands .ensures .1)
+      let at-read-operands = c .before .before in
+      let start = at-read-operands .before .before in
+      wrong-within (start .args .s .now) _ _ (start .pre .1 .sound .size) (c .enum-told .given .1)
+      (at-read-operands .read-operands .ensures .1)
 
   beside-part-returns : beside-part-lts.Need-returns beside-part-calls (at beside-part-member t) beside-part.Post
   beside-part-returns c =
-      let at-mask-operands = c .before .before .before in
-      let start = at-mask-operands .before .before in
-      beside-refused _ _ _ _ _ _ (start .pre .1) _ (at-mask-operands .mask-operands .ensures .0)
-      (at-mask-operands .mask-operands .ensures .1) _ _ (c .before .enum-told .given .1) (c .refused .ensures)
+      let at-read-operands = c .before .before .before in
+      let start = at-read-operands .before .before in
+      beside-refused _ _ _ _ _ _ (start .pre .1) _ (at-read-operands .read-operands .ensures .0)
+      (at-read-operands .read-operands .ensures .1) _ _ (c .before .enum-told .given .1) (c .refused .ensures)
 
   beside-part-walk-requires : beside-part-lts.Need-walk-requires beside-part-calls (at beside-part-member t) beside-part.Post
   beside-part-walk-requires c κs =
       let at-mark-level = c .before .before .before .before in
       let at-level-of = at-mark-level .before in
       let at-ops = at-level-of .before .before .before .before in
-      let at-mask-operands = at-ops .before .before in
-      let start = at-mask-operands .before .before in (
+      let at-read-operands = at-ops .before .before in
+      let start = at-read-operands .before .before in (
         omega arith,
-        first-asked _ _ _ _ _ _ (start .pre .1) _ (at-mask-operands .mask-operands .ensures .0)
-            (at-mask-operands .mask-operands .ensures .1) _ (at-ops .ops .given .1) _ _ _ _ (at-level-of .level-of .ensures .0)
+        first-asked _ _ _ _ _ _ (start .pre .1) _ (at-read-operands .read-operands .ensures .0)
+            (at-read-operands .read-operands .ensures .1) _ (at-ops .ops .given .1) _ _ _ _ (at-level-of .level-of .ensures .0)
             (c .before .bare .ensures) (c .past .ensures) (at-mark-level .mark-level .ensures),
       )
 
@@ -129,9 +132,9 @@ module _ (t : ℕ) where
       let at-mark-level = at-bare .before .before .before in
       let at-level-of = at-mark-level .before in
       let at-ops = at-level-of .before .before .before .before in
-      let at-mask-operands = at-ops .before .before in
-      let start = at-mask-operands .before .before in
-      first-off _ _ _ _ _ _ (start .pre .1) _ (at-mask-operands .mask-operands .ensures .0) (at-mask-operands .mask-operands .ensures .1)
+      let at-read-operands = at-ops .before .before in
+      let start = at-read-operands .before .before in
+      first-off _ _ _ _ _ _ (start .pre .1) _ (at-read-operands .read-operands .ensures .0) (at-read-operands .read-operands .ensures .1)
       _ (at-ops .ops .given .1) _ _ _ _ (at-level-of .level-of .ensures .0) (at-bare .bare .ensures) (at-past .past .ensures)
       (at-mark-level .mark-level .ensures) _ _ _ (told-of _ _ _ _ _ _ _ (at-unwire .unwire .ensures) (at-walk .walk .ensures)) _ _
       (c .before .enum-told2 .given .1) (c .wire .ensures)
@@ -146,11 +149,11 @@ module _ (t : ℕ) where
       let at-mark-level = at-bare .before .before .before in
       let at-level-of = at-mark-level .before in
       let at-ops = at-level-of .before .before .before .before in
-      let at-mask-operands = at-ops .before .before in
-      let start = at-mask-operands .before .before in (
+      let at-read-operands = at-ops .before .before in
+      let start = at-read-operands .before .before in (
         omega arith,
-        second-asked _ _ _ _ _ _ (start .pre .1) _ (at-mask-operands .mask-operands .ensures .0)
-            (at-mask-operands .mask-operands .ensures .1) _ (at-ops .ops .given .1) _ _ _ _ (at-level-of .level-of .ensures .0)
+        second-asked _ _ _ _ _ _ (start .pre .1) _ (at-read-operands .read-operands .ensures .0)
+            (at-read-operands .read-operands .ensures .1) _ (at-ops .ops .given .1) _ _ _ _ (at-level-of .level-of .ensures .0)
             (at-bare .bare .ensures) (at-past .past .ensures) (at-mark-level .mark-level .ensures) _ _ _
             (told-of _ _ _ _ _ _ _ (at-unwire .unwire .ensures) (at-walk .walk .ensures)) _ (at-left .left .given .1) _ (c .bare2 .ensures),
       )
@@ -177,42 +180,18 @@ module _ (t : ℕ) where
       let at-mark-level = at-bare .before .before .before in
       let at-level-of = at-mark-level .before in
       let at-ops = at-level-of .before .before .before .before in
-      let at-mask-operands = at-ops .before .before in
-      let start = at-mask-operands .before .before in
-      second-off _ _ _ _ _ _ (start .pre .1) _ (at-mask-operands .mask-operands .ensures .0) (at-mask-operands .mask-operands .ensures .1)
+      let at-read-operands = at-ops .before .before in
+      let start = at-read-operands .before .before in
+      second-off _ _ _ _ _ _ (start .pre .1) _ (at-read-operands .read-operands .ensures .0) (at-read-operands .read-operands .ensures .1)
       _ (at-ops .ops .given .1) _ _ _ _ (at-level-of .level-of .ensures .0) (at-bare .bare .ensures) (at-past .past .ensures)
       (at-mark-level .mark-level .ensures) _ _ _ (told-of _ _ _ _ _ _ _ (at-unwire .unwire .ensures) (at-walk .walk .ensures)) _
       (at-left .left .given .1) _ (at-bare2 .bare2 .ensures) _ _ _
       (told-of _ _ _ _ _ _ _ (at-unwire2 .unwire2 .ensures) (at-walk2 .walk2 .ensures)) _ _ (c .before .enum-told3 .given .1)
       (c .wire2 .ensures)
 
-  beside-part-shared-slice-read-wp : beside-part-lts.Need-shared-slice-read-wp beside-part-calls (at beside-part-member t) beside-part.Post
-  beside-part-shared-slice-read-wp c =
-      let mid = c .before .before .before .before .before .before .before .before .before .before in
-      let at-ops = mid .before .before .before .before .before .before .before .before .before .before .before .before .before in
-      let at-mask-operands = at-ops .before .before in
-      let start = at-mask-operands .before .before in
-      omega (
-        arith,
-        inside _ _ _ _ _ _ (start .pre .1) _ (at-mask-operands .mask-operands .ensures .0) (at-mask-operands .mask-operands .ensures .1) _
-            (at-ops .ops .given .1) .0,
-      )
-
-  beside-part-shared-slice-read-wq : beside-part-lts.Need-shared-slice-read-wq beside-part-calls (at beside-part-member t) beside-part.Post
-  beside-part-shared-slice-read-wq c =
-      let mid = c .before .before .before .before .before .before .before .before .before .before in
-      let at-ops = mid .before .before .before .before .before .before .before .before .before .before .before .before .before .before in
-      let at-mask-operands = at-ops .before .before in
-      let start = at-mask-operands .before .before in
-      omega (
-        arith,
-        inside _ _ _ _ _ _ (start .pre .1) _ (at-mask-operands .mask-operands .ensures .0) (at-mask-operands .mask-operands .ensures .1) _
-            (at-ops .ops .given .1) .0,
-      )
-
   beside-part-mark-fault-requires : beside-part-lts.Need-mark-fault-requires beside-part-calls (at beside-part-member t) beside-part.Post
   beside-part-mark-fault-requires c κs =
-      let at-right = c .before .before .before .before .before in
+      let at-right = c .before .before .before .before in
       let at-unwire2 = at-right .before .before in
       let at-walk2 = at-unwire2 .before in
       let at-bare2 = at-walk2 .before in
@@ -224,10 +203,10 @@ module _ (t : ℕ) where
       let at-mark-level = at-bare .before .before .before in
       let at-level-of = at-mark-level .before in
       let at-ops = at-level-of .before .before .before .before in
-      let at-mask-operands = at-ops .before .before in
-      let start = at-mask-operands .before .before in (
-        two-marks _ _ _ _ _ _ (start .pre .1) _ (at-mask-operands .mask-operands .ensures .0)
-            (at-mask-operands .mask-operands .ensures .1) _ (at-ops .ops .given .1) _ _ _ _ (at-level-of .level-of .ensures .0)
+      let at-read-operands = at-ops .before .before in
+      let start = at-read-operands .before .before in (
+        two-marks _ _ _ _ _ _ (start .pre .1) _ (at-read-operands .read-operands .ensures .0)
+            (at-read-operands .read-operands .ensures .1) _ (at-ops .ops .given .1) _ _ _ _ (at-level-of .level-of .ensures .0)
             (at-bare .bare .ensures) (at-past .past .ensures) (at-mark-level .mark-level .ensures) _ _ _
             (told-of _ _ _ _ _ _ _ (at-unwire .unwire .ensures) (at-walk .walk .ensures)) _ (at-left .left .given .1) _
             (at-bare2 .bare2 .ensures) _ _ _ (told-of _ _ _ _ _ _ _ (at-unwire2 .unwire2 .ensures) (at-walk2 .walk2 .ensures)) _
@@ -238,7 +217,8 @@ module _ (t : ℕ) where
   beside-part-returns-4 : beside-part-lts.Need-returns-4 beside-part-calls (at beside-part-member t) beside-part.Post
   beside-part-returns-4 c =
       let at-right-states = c .before .before in
-      let at-right = at-right-states .before .before .before .before .before in
+      let at-head = at-right-states .before .before in
+      let at-right = at-head .before .before in
       let at-unwire2 = at-right .before .before in
       let at-walk2 = at-unwire2 .before in
       let at-bare2 = at-walk2 .before in
@@ -250,14 +230,14 @@ module _ (t : ℕ) where
       let at-mark-level = at-bare .before .before .before in
       let at-level-of = at-mark-level .before in
       let at-ops = at-level-of .before .before .before .before in
-      let at-mask-operands = at-ops .before .before in
-      let start = at-mask-operands .before .before in
-      beside-left _ _ _ _ _ _ (start .pre .1) _ (at-mask-operands .mask-operands .ensures .0)
-      (at-mask-operands .mask-operands .ensures .1) _ (at-ops .ops .given .1) _ _ _ _ (at-level-of .level-of .ensures .0)
+      let at-read-operands = at-ops .before .before in
+      let start = at-read-operands .before .before in
+      beside-left _ _ _ _ _ _ (start .pre .1) _ (at-read-operands .read-operands .ensures .0)
+      (at-read-operands .read-operands .ensures .1) _ (at-ops .ops .given .1) _ _ _ _ (at-level-of .level-of .ensures .0)
       (at-bare .bare .ensures) (at-past .past .ensures) (at-mark-level .mark-level .ensures) _ _ _
       (told-of _ _ _ _ _ _ _ (at-unwire .unwire .ensures) (at-walk .walk .ensures)) _ (at-left .left .given .1) _
       (at-bare2 .bare2 .ensures) _ _ _ (told-of _ _ _ _ _ _ _ (at-unwire2 .unwire2 .ensures) (at-walk2 .walk2 .ensures)) _
-      (at-right .right .given .1) _ _ _ (at-right-states .right-states .ensures) (c .before .mark-fault .ensures) (c .joined .ensures)
+      (at-right .right .given .1) _ _ _ _ (at-head .head-at .ensures) (at-right-states .right-states .ensures) (c .before .mark-fault .ensures) (c .joined .ensures)
 
   abbrev side-calls : side-lts.Claims
   side-calls = (
@@ -509,10 +489,7 @@ pub +beside-part+side+walk-spec : {M : Type 1} → statement M
     (λ c. search needs)
     (beside-part-wire-requires-2 t)
     (beside-part-returns-3 t)
-    (λ c. search needs)
-    (beside-part-shared-slice-read-wp t)
-    (λ c. search needs)
-    (beside-part-shared-slice-read-wq t)
+    (λ c κs. search needs)
     (λ c κs. search needs)
     (beside-part-mark-fault-requires t)
     (λ c κs. search needs)

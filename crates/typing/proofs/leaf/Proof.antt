@@ -1,8 +1,8 @@
 -- `leaf` meets its contract. Assumes nothing.
 use native.Mathlib.Omega.{arith}
 use mathlib.Core.Path.{refl}
-use Prim.Native.Nat.{_+_, _%_}
-use Rattle.rules.specs.Reading.{readOperands, operandFits, fieldsOf, tablesOf}
+use Prim.Native.Nat.{_%_}
+use Rattle.rules.specs.Reading.{readOperands, fieldsOf, tablesOf}
 use Rattle.typing.specs.Walking.{openOf}
 use lib.ListN.{getD}
 use Rattle.rules.proofs.ReadingLaws.{stands-known, stands-unknown}
@@ -34,8 +34,8 @@ returns-3 c =
     (stands-known _ _ 2 (omega arith) (λ e. omega arith)) refl (
       c .test-part .ensures,
       test-noted (start .args .s .now) (start .args .st % 65536) (openOf (start .args .way)) (start .args .uses .now)
-          (readOperands (start .args .s .now) (operandFits (fieldsOf (start .args .s .now)) (tablesOf (start .args .s .now)) 2) 3 0
-          (start .args .st % 65536 + 1)),
+          (readOperands (start .args .s .now) (fieldsOf (start .args .s .now)) (tablesOf (start .args .s .now)) 2
+          (start .args .st % 65536)),
     )
 
 returns-4 : tie.Need-returns-4
@@ -46,8 +46,8 @@ returns-4 c =
     refl (
       c .set-part .ensures,
       set-noted (start .args .s .now) (start .args .st % 65536) (openOf (start .args .way)) (start .args .uses .now)
-          (readOperands (start .args .s .now) (operandFits (fieldsOf (start .args .s .now)) (tablesOf (start .args .s .now)) 3) 3 0
-          (start .args .st % 65536 + 1)),
+          (readOperands (start .args .s .now) (fieldsOf (start .args .s .now)) (tablesOf (start .args .s .now)) 3
+          (start .args .st % 65536)),
     )
 
 returns-5 : tie.Need-returns-5
