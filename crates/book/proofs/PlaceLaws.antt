@@ -1,16 +1,16 @@
 -- Plain laws of places: after a part, and where a body starts.
 use Prim.Native.Nat.{ℕ, zero, suc, _+_, _-_, _*_, _≤_}
 use native.Mathlib.Omega.{arith}
-use native.Mathlib.Numerals.{sub-one, add-one}
+use native.Mathlib.Numerals.{add-one}
 use mathlib.Core.Path.{_≡_, refl, sym, _∙_}
-use mathlib.Core.Bool.{Bool, true, false, cond}
 use mathlib.Core.List.{List}
-use lib.ListN.{length, getD}
-use lib.Dec.{ltb}
-use Rattle.rules.specs.Codes.{shapeAt, partsOf}
+use lib.ListN.{getD}
+use Rattle.rules.specs.Codes.{shapeAt}
 use Rattle.rules.specs.declared.Head.{Head}
 use Rattle.rules.specs.declared.Shape.{Shape}
-use Rattle.rules.specs.Reading.{head, noHead, headAt, skip, after, bodyStart, lengthAt}
+use Rattle.rules.specs.Reading.{headAt, skip, after, bodyStart, lengthAt}
+use Rattle.rules.specs.Parts.{Id}
+use Rattle.rules.proofs.CodeLaws.{stands-head}
 use Rattle.rules.proofs.ReadingLaws.{row-small}
 
 -- x is the row of the code
@@ -30,15 +30,7 @@ after-zero s (suc d) at e = absurd (omega arith)
 -- h is the head at the place, and x the row of its code
 module _ (s : List ℕ) (d at : ℕ) (hd : d ≡ 0 → ⊥) (h : Head) (eh : h ≡ headAt s at) (x : Shape) (ex : x ≡ shapeAt (h .code)) where
   after-suc : after s d at ≡ skip (x .parts) (after s (d - 1)) (h .from)
-  unfolding after headAt
-  after-suc = rw (ex, eh) (go d hd (ltb at (length s)) refl)
-    where
-      go : (d : ℕ) → (d ≡ 0 → ⊥) → (there : Bool) → ltb at (length s) ≡ there
-          → let y = cond there (head s at) (noHead at) in
-          after s d at ≡ skip (partsOf (y .code)) (after s (d - 1)) (y .from)
-      go zero hd there e = absurd (hd refl)
-      go (suc d) hd true e = rw (e, sub-one)
-      go (suc d) hd false e = rw e
+  after-suc = rw ex (stands-head s (λ x. Id) d at hd h eh .next)
 
   pub after-none : x .parts ≡ 0 → h .from ≡ after s d at
   after-none e = sym (after-suc ∙ rw e)

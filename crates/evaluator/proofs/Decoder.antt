@@ -12,7 +12,7 @@ use borrow.Author.Tests.{lt-ltb, le-ltb}
 use Rattle.rules.specs.Codes.{operandsOf, partsOf}
 use Rattle.rules.specs.Parts.{Part, Id, Drop, Test, Set, Table, namesOpen}
 use Rattle.rules.specs.Books.{useOf, noUse, mostDepth}
-use Rattle.rules.specs.Reading.{below, skip, after, built, partAt, bodyAt, useAt, numberAt, lengthAt, readsAt, writesAt, bodyStart}
+use Rattle.rules.specs.Reading.{below, skip, after, head, built, partAt, bodyAt, useAt, numberAt, lengthAt, readsAt, writesAt, bodyStart}
 use Rattle.evaluator.specs.Work.{namedIn, partIn, notFrom, sumFrom, seqFrom, besideAt, afterTwo}
 use Rattle.evaluator.proofs.WorkLaws.{no}
 
@@ -38,7 +38,7 @@ module _ (s : List ℕ) (named : ℕ → Part) (d at : ℕ) where
   module _ (hd : d ≡ 0 → ⊥) (h : at < length s) where
     -- a code c, whose parts below begin at b
     pub stands-code : (c b : ℕ) → getD s at 0 ≡ c → at + 1 + operandsOf c ≡ b
-        → Stands s named d at (built s named at c (partAt s named (d - 1) b) (partAt s named (d - 1) (after s (d - 1) b)))
+        → Stands s named d at (built (head s at) named c (partAt s named (d - 1) b) (partAt s named (d - 1) (after s (d - 1) b)))
         (skip (partsOf c) (after s (d - 1)) b)
     unfolding partAt after
     stands-code c b e f = go d hd
@@ -47,7 +47,7 @@ module _ (s : List ℕ) (named : ℕ → Part) (d at : ℕ) where
         begin = ap (λ (z : ℕ). at + 1 + operandsOf z) e ∙ f
 
         go : (d : ℕ) → (d ≡ 0 → ⊥)
-            → Stands s named d at (built s named at c (partAt s named (d - 1) b) (partAt s named (d - 1) (after s (d - 1) b)))
+            → Stands s named d at (built (head s at) named c (partAt s named (d - 1) b) (partAt s named (d - 1) (after s (d - 1) b)))
             (skip (partsOf c) (after s (d - 1)) b)
         go zero hd = absurd (hd refl)
         go (suc d) hd = record { part = rw (sub-one, begin, e); next = rw (sub-one, lt-ltb at (length s) h, begin, e) }
@@ -88,7 +88,7 @@ module _ (s : List ℕ) (main : Bool) (d at : ℕ) (hd : d ≡ 0 → ⊥) (h : a
 
 -- code 0 and unknown codes
 record Plain (s : List ℕ) (named : ℕ → Part) (at c : ℕ) (l r : Part) : Type 0 where
-  part : built s named at c l r ≡ Id
+  part : built (head s at) named c l r ≡ Id
   operands : operandsOf c ≡ 0
   parts : partsOf c ≡ 0
 

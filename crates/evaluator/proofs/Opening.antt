@@ -12,7 +12,7 @@ use Rattle.rules.specs.declared.Shape.{Shape}
 use Rattle.rules.specs.Codes.{shapeAt, partsOf}
 use Rattle.rules.specs.Parts.{Part, Id, Drop, Test, Set, Not, Sum, Seq, Beside, Table, Open, namesOpen}
 use Rattle.rules.specs.Books.{useOf, noUse, mostDepth, Scope, Fine, Bytes}
-use Rattle.rules.specs.Reading.{skip, after, built, partAt, bodyAt, useAt, lengthAt, readsAt, writesAt, bodyStart, mainOf}
+use Rattle.rules.specs.Reading.{skip, after, head, built, partAt, bodyAt, useAt, lengthAt, readsAt, writesAt, bodyStart, mainOf}
 use Rattle.rules.proofs.ReadingLaws.{parts-small}
 use Rattle.rules.proofs.FineLaws.{OfUses}
 use Rattle.rules.proofs.Inside.{main-placed}
@@ -46,7 +46,7 @@ over (suc zero) a b = a
 over (suc (suc n)) a b = a || b
 
 module _ (s : List ℕ) (named : ℕ → Part) (at : ℕ) (l r : Part) where
-  names-built : (c : ℕ) → (c ≡ 8 → ⊥) → namesOpen (built s named at c l r) ≡ over (partsOf c) (namesOpen l) (namesOpen r)
+  names-built : (c : ℕ) → (c ≡ 8 → ⊥) → namesOpen (built (head s at) named c l r) ≡ over (partsOf c) (namesOpen l) (namesOpen r)
   unfolding built namesOpen
   names-built zero h = refl
   names-built (suc zero) h = refl
@@ -71,10 +71,10 @@ first (suc (suc n)) a b z e = rw e
 
 -- a table's body names no table
 quiet : (s : List ℕ) (at : ℕ) (l r : Part) (c : ℕ) (b : Bool) → eqb c 8 ≡ b → namesOpen l ≡ false → namesOpen r ≡ false
-    → namesOpen (built s noUse at c l r) ≡ false
+    → namesOpen (built (head s at) noUse c l r) ≡ false
 unfolding built namesOpen
 quiet s at l r c true q e f = rw (eqb-true c 8 q)
-quiet s at l r c false q e f = names-built s noUse at l r c (eqb-false c 8 q) ∙ both (partsOf c) _ _ e f
+quiet s at l r c false q e f = names-built (head s at) noUse l r c (eqb-false c 8 q) ∙ both (partsOf c) _ _ e f
 
 never : (s : List ℕ) (d at : ℕ) → namesOpen (partAt s noUse d at) ≡ false
 unfolding partAt namesOpen
@@ -132,7 +132,7 @@ sees-use s x b y at f e g q =
 module _ (s : List ℕ) (named : ℕ → Part) (d at : ℕ) (hd : d ≡ 0 → ⊥) (h : at < length s) (h8 : getD s at 0 ≡ 8 → ⊥)
     (x : Shape) (ex : x ≡ shapeAt (getD s at 0)) where
   stood : Stands s named d at
-      (built s named at (getD s at 0) (partAt s named (d - 1) (at + 1 + x .operands))
+      (built (head s at) named (getD s at 0) (partAt s named (d - 1) (at + 1 + x .operands))
       (partAt s named (d - 1) (after s (d - 1) (at + 1 + x .operands))))
       (skip (partsOf (getD s at 0)) (after s (d - 1)) (at + 1 + x .operands))
   stood = stands-code s named d at hd h (getD s at 0) (at + 1 + x .operands) refl (rw ex)
@@ -143,7 +143,7 @@ module _ (s : List ℕ) (named : ℕ → Part) (d at : ℕ) (hd : d ≡ 0 → �
   names : namesOpen (partAt s named d at)
       ≡ over (x .parts) (namesOpen (partAt s named (d - 1) (at + 1 + x .operands)))
       (namesOpen (partAt s named (d - 1) (after s (d - 1) (at + 1 + x .operands))))
-  names = ap namesOpen (stood .part) ∙ names-built s named at _ _ (getD s at 0) h8 ∙ rw below
+  names = ap namesOpen (stood .part) ∙ names-built (head s at) named _ _ (getD s at 0) h8 ∙ rw below
 
   place : after s d at ≡ skip (x .parts) (after s (d - 1)) (at + 1 + x .operands)
   place = stood .next ∙ rw below

@@ -10,7 +10,7 @@ use mathlib.Core.Logic.{_⊎_, inl, inr}
 use lib.ListN.{length, getD, length-drop, length-append, List·getD-eq-default}
 use Rattle.rules.specs.Parts.{Part, Id, Drop, Test, Set, Not, Sum, Seq, Beside, Table, Open, write, size, namesOpen}
 use Rattle.rules.specs.Books.{mostDepth, Scope, scopeOf, useOf, Fine}
-use Rattle.rules.specs.Reading.{fieldsOf, tablesOf, readsAt, writesAt, numberAt, bodyStart, below, after, built, partAt, bodyAt, useAt}
+use Rattle.rules.specs.Reading.{fieldsOf, tablesOf, readsAt, writesAt, numberAt, bodyStart, below, after, head, built, partAt, bodyAt, useAt}
 use Rattle.rules.specs.Packets.{Packets}
 use Rattle.rules.specs.States.{Spot, placed, place}
 use Rattle.rules.proofs.Decoding.{reads, drop-head, size-positive}
@@ -150,9 +150,9 @@ module _ (s : List ℕ) (at : ℕ) where
   abbrev second : Part
   second = partAt s (useAt s) 31 (after s 31 (below s at))
 
-  part-built : (code : ℕ) → getD s at 0 ≡ code → partOf s at ≡ built s (useAt s) at code first second
+  part-built : (code : ℕ) → getD s at 0 ≡ code → partOf s at ≡ built (head s at) (useAt s) code first second
   unfolding partOf
-  part-built code e = part-suc s (useAt s) mostDepth at (λ z. omega arith) ∙ ap (λ (c : ℕ). built s (useAt s) at c first second) e
+  part-built code e = part-suc s (useAt s) mostDepth at (λ z. omega arith) ∙ ap (λ (c : ℕ). built (head s at) (useAt s) c first second) e
 
   pub part-drop : getD s at 0 ≡ 1 → partOf s at ≡ Drop
   unfolding built
@@ -200,7 +200,7 @@ module _ (s : List ℕ) (at : ℕ) where
   use-rests o S x r w start (some p) = refl
 
   built-rests : (o : Spot) (S : Packets) (l r : Part) (code : ℕ) → code ≤ 8 → (code ≡ 0 → ⊥) → (code ≡ 6 → ⊥)
-      → place o (built s (useAt s) at code l r) S ≡ placed o (built s (useAt s) at code l r) S
+      → place o (built (head s at) (useAt s) code l r) S ≡ placed o (built (head s at) (useAt s) code l r) S
   unfolding built place useAt
   built-rests o S l r zero h a b = absurd (a refl)
   built-rests o S l r (suc zero) h a b = refl

@@ -13,22 +13,14 @@ use rules::Reason;
 use rules::Sizes;
 use rules::Verdict;
 use text::Text;
-ghost use Prim.Native.Nat.{_+_, _*_, _<_, _≤_};
+ghost use Prim.Native.Nat.{_*_, _≤_};
 ghost use mathlib.Core.Path.{_≡_};
 ghost use lib.ListN.{length, take};
 ghost use Rattle.io.specs.Counts.{Counts};
 ghost use Rattle.rules.specs.declared.Verdict.the-variants.{Accepted};
-ghost use Rattle.rules.specs.Reading.{numberAt, fieldsOf, verdict};
+ghost use Rattle.rules.specs.Reading.{fieldsOf, verdict};
 ghost use Rattle.printer.specs.Printing.{wordsIn, printed};
 ghost use Rattle.printer.specs.Building.{Holds, Accepts, ranText, text, textOf};
-
-// The number in two bytes, high byte first.
-fn number_at(s: &[u8], at: usize) -> u16
-    requires { ⌜ at + 1 < length (now s) ⌝ }
-    ensures { λ r. ⌜ r ≡ numberAt (now (s .entry)) at ⌝ }
-{
-    (s[at] as u16) * 256 + s[at + 1] as u16
-}
 
 // The packet's words, in the first k places.
 fn packet_of(s: &[u8], k: usize) -> [u16; 8]
@@ -38,7 +30,7 @@ fn packet_of(s: &[u8], k: usize) -> [u16; 8]
     let mut packet = [0u16; 8];
     let mut i = 0;
     while i < k {
-        packet[i] = number_at(s, 2 * i);
+        packet[i] = book::number_at(s, 2 * i);
         i += 1;
     }
     packet
@@ -86,7 +78,7 @@ pub fn print_run(input: &[u8]) -> Text
     if input.len() < 2 {
         return refused(rules::no_place(Reason::Input));
     }
-    let n = number_at(input, 0) as usize;
+    let n = book::number_at(input, 0) as usize;
     if 4096 < n {
         return refused(rules::no_place(Reason::BookLength));
     }

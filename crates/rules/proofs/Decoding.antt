@@ -18,7 +18,7 @@ use Rattle.rules.specs.Codes.{operandsOf, partsOf}
 use Rattle.rules.specs.Parts.{Part, Id, Drop, Test, Set, Not, Sum, Seq, Beside, Table, Open, write, size}
 use Rattle.rules.specs.Books.{mostDepth, Bytes, Scope, Fine}
 use Rattle.rules.specs.Reading.{andThen, byteIf, stands, operandsWrong, readOperands, readTimes, readPart, readBody}
-use Rattle.rules.specs.Reading.{numberAt, skip, after, built, partAt}
+use Rattle.rules.specs.Reading.{numberAt, skip, after, head, built, partAt}
 use Rattle.rules.proofs.ReadingLaws.{and-was, byte-was, byte-next, none-wrong, none-later, operands-were, operands-next}
 use Rattle.rules.proofs.ReadingLaws.{parts-small, body-whole}
 
@@ -164,8 +164,8 @@ module _ (s : List ℕ) (small : Bytes s) (c : Scope) (named : ℕ → Part) (na
   -- a part with a code that stands, over operands that fit and fine parts, is written as its bytes, and is fine
   abbrev Built : ℕ → Bool → ℕ → Part → Part → ℕ → Type 0
   Built d pred at l r code =
-      (write (built s named at code l r) ≡ code ∷ (bytes s (at + 1) (operandsOf code) ++ partBytes (partsOf code) (write l) (write r)))
-      × Fine c named (suc d) pred (built s named at code l r)
+      (write (built (head s at) named code l r) ≡ code ∷ (bytes s (at + 1) (operandsOf code) ++ partBytes (partsOf code) (write l) (write r)))
+      × Fine c named (suc d) pred (built (head s at) named code l r)
 
   value-small : (at : ℕ) → numberAt s at < 65536
   value-small at = omega (arith, small at, small (at + 1))
@@ -234,28 +234,30 @@ module _ (s : List ℕ) (small : Bytes s) (c : Scope) (named : ℕ → Part) (na
   parts-read d pred f ih (suc (suc (suc n))) b e le q = absurd (omega arith)
 
   -- a part from its code, operands and parts
-  part-read : (d : ℕ) (pred : Bool) (at b e : ℕ) (code : ℕ) → getD s at 0 ≡ code → at < length s → stands (c .main) pred code ≡ true
-      → drop at s ≡ code ∷ drop (at + 1) s
-      → OperandsRead s (c .fields) (c .tables) code at b → b ≤ length s
-      → PartsRead d (eqb code 4 || pred) (partsOf code) b e → Read s c named (suc d) pred at e
-  unfolding after partAt
-  part-read d pred at b e code is lt st dr o le w =
-      let b′ : ℕ = at + 1 + operandsOf code in
-      let w′ : PartsRead d (eqb code 4 || pred) (partsOf code) b′ e
-      = subst (λ (x : ℕ). PartsRead d (eqb code 4 || pred) (partsOf code) x e) (o .0) w in
-      let l : Part = partAt s named d b′ in
-      let r : Part = partAt s named d (after s d b′) in
-      let os : List ℕ = bytes s (at + 1) (operandsOf code) in
-      let done : Built d pred at l r code = built-right d at pred l r code st (o .2) (w′ .2) in
-      rw is (
-        rw (lt-ltb at (length s) lt) (w′ .0),
-        dr ∙ ap (λ (x : List ℕ). code ∷ x)
-            (o .1 ∙ ap (λ (x : ℕ). os ++ drop x s) (o .0) ∙ ap (λ (x : List ℕ). os ++ x) (w′ .1)
-            ∙ sym (append-assoc os (partBytes (partsOf code) (write l) (write r)) (drop e s)))
-            ∙ ap (λ (x : List ℕ). x ++ drop e s) (sym (done .0)),
-        done .1,
-        w .3 le,
-      )
+  module _ (d : ℕ) (pred : Bool) (at b e : ℕ) where
+    abbrev code : ℕ
+    code = getD s at 0
+
+    part-read : at < length s → stands (c .main) pred code ≡ true → drop at s ≡ code ∷ drop (at + 1) s
+        → OperandsRead s (c .fields) (c .tables) code at b → b ≤ length s
+        → PartsRead d (eqb code 4 || pred) (partsOf code) b e → Read s c named (suc d) pred at e
+    unfolding after partAt
+    part-read lt st dr o le w =
+        let b′ : ℕ = at + 1 + operandsOf code in
+        let w′ : PartsRead d (eqb code 4 || pred) (partsOf code) b′ e
+        = subst (λ (x : ℕ). PartsRead d (eqb code 4 || pred) (partsOf code) x e) (o .0) w in
+        let l : Part = partAt s named d b′ in
+        let r : Part = partAt s named d (after s d b′) in
+        let os : List ℕ = bytes s (at + 1) (operandsOf code) in
+        let done : Built d pred at l r code = built-right d at pred l r code st (o .2) (w′ .2) in (
+          rw (lt-ltb at (length s) lt) (w′ .0),
+          dr ∙ ap (λ (x : List ℕ). code ∷ x)
+              (o .1 ∙ ap (λ (x : ℕ). os ++ drop x s) (o .0) ∙ ap (λ (x : List ℕ). os ++ x) (w′ .1)
+              ∙ sym (append-assoc os (partBytes (partsOf code) (write l) (write r)) (drop e s)))
+              ∙ ap (λ (x : List ℕ). x ++ drop e s) (sym (done .0)),
+          done .1,
+          w .3 le,
+        )
 
   pub read : (d : ℕ) (pred : Bool) (at e : ℕ) → readPart s c d pred at ≡ Next e → Read s c named d pred at e
   unfolding readPart
@@ -272,7 +274,7 @@ module _ (s : List ℕ) (small : Bytes s) (c : Scope) (named : ℕ → Part) (na
           let v = then-was (readOperands s (c .fields) (c .tables) code at) _ e (w .2) in
           let o : OperandsRead s (c .fields) (c .tables) code at (v .0) = operands-read s (c .fields) (c .tables) code at (v .0) (v .1) in
           let le : v .0 ≤ length s = omega (arith, o .0, operands-were s (c .fields) (c .tables) code at (v .0) (v .1) .1) in
-          part-read d pred at (v .0) e code refl (g .3) (g .1) (g .2) o le
+          part-read d pred at (v .0) e (g .3) (g .1) (g .2) o le
           (parts-read d (eqb code 4 || pred) (readPart s c d (eqb code 4 || pred)) (ih (eqb code 4 || pred)) (partsOf code) (v .0) e
           (parts-small code) (v .2))
 
@@ -330,7 +332,7 @@ module _ (s : List ℕ) where
     HeadRead d pred at code bs rest =
         let b = at + 1 + operandsOf code in
         (readPart s c (suc d) pred at ≡ readTimes (partsOf code) (readPart s c d (eqb code 4 || pred)) b)
-        × (partAt s named (suc d) at ≡ built s named at code (partAt s named d b) (partAt s named d (after s d b)))
+        × (partAt s named (suc d) at ≡ built (head s at) named code (partAt s named d b) (partAt s named d (after s d b)))
         × (after s (suc d) at ≡ skip (partsOf code) (after s d) b) × (drop b s ≡ rest) × (drop (at + 1) s ≡ bs ++ rest)
 
     reads-head : (d : ℕ) (pred : Bool) (at code : ℕ) (bs rest : List ℕ) → drop at s ≡ code ∷ (bs ++ rest)
@@ -347,7 +349,7 @@ module _ (s : List ℕ) where
 
     reads-none : (d : ℕ) (pred : Bool) (at code : ℕ) (bs rest : List ℕ) (p : Part) → partsOf code ≡ 0 → size p ≡ 1 + operandsOf code
         → HeadRead d pred at code bs rest
-        → built s named at code (partAt s named d (at + 1 + operandsOf code)) (partAt s named d (after s d (at + 1 + operandsOf code))) ≡ p
+        → built (head s at) named code (partAt s named d (at + 1 + operandsOf code)) (partAt s named d (after s d (at + 1 + operandsOf code))) ≡ p
         → Reads (suc d) pred at p rest
     reads-none d pred at code bs rest p z n a q =
         let e : at + 1 + operandsOf code ≡ at + size p = omega arith in
@@ -356,7 +358,7 @@ module _ (s : List ℕ) where
     reads-two : (d : ℕ) (pred : Bool) (at code : ℕ) (bs : List ℕ) (g : Part → Part → Part) (p q : Part) (rest : List ℕ)
         → partsOf code ≡ 2 → size (g p q) ≡ 1 + operandsOf code + length (write p ++ write q)
         → HeadRead d pred at code bs (write p ++ (write q ++ rest))
-        → ((x y : Part) → built s named at code x y ≡ g x y)
+        → ((x y : Part) → built (head s at) named code x y ≡ g x y)
         → ((b : ℕ) (r : List ℕ) → drop b s ≡ write p ++ r → Reads d (eqb code 4 || pred) b p r)
         → ((b : ℕ) (r : List ℕ) → drop b s ≡ write q ++ r → Reads d (eqb code 4 || pred) b q r)
         → Reads (suc d) pred at (g p q) rest

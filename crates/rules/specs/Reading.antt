@@ -174,12 +174,12 @@ unfoldable pub after : List ℕ → ℕ → ℕ → ℕ
 after s zero at = at
 after s (suc d) at = cond (ltb at (length s)) (skip (partsOf (getD s at 0)) (after s d) (below s at)) at
 
--- the part with a code and the operands at a place, over the parts l and r; an unknown code is id
-unfoldable pub built : List ℕ → (ℕ → Part) → ℕ → ℕ → Part → Part → Part
-built s named at code l r =
+-- the part with a code and the operands of a head, over the parts l and r; an unknown code is id
+unfoldable pub built : Head → (ℕ → Part) → ℕ → Part → Part → Part
+built h named code l r =
     getD
-    (Id ∷ Drop ∷ Test (head s at .field) (head s at .value) ∷ Set (head s at .field) (head s at .value)
-    ∷ Not l ∷ Sum l r ∷ Seq l r ∷ Beside (head s at .left) (head s at .right) l r ∷ named (head s at .table) ∷ []) code Id
+    (Id ∷ Drop ∷ Test (h .field) (h .value) ∷ Set (h .field) (h .value) ∷ Not l ∷ Sum l r ∷ Seq l r ∷ Beside (h .left) (h .right) l r
+    ∷ named (h .table) ∷ []) code Id
 
 -- the part at a place, at most d deep, where a use of table x stands for `named x`
 unfoldable pub partAt : List ℕ → (ℕ → Part) → ℕ → ℕ → Part
@@ -187,7 +187,7 @@ partAt s named zero at = Id
 partAt s named (suc d) at =
     let l = partAt s named d (below s at) in
     let r = partAt s named d (after s d (below s at)) in
-    built s named at (getD s at 0) l r
+    built (head s at) named (getD s at 0) l r
 
 -- the body of table x, and what a use of it stands for
 unfoldable pub bodyAt : List ℕ → ℕ → Option Part

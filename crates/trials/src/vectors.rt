@@ -7,10 +7,9 @@ ghost use Rattle.trials.specs.Vectors.{longAt, wordsIn, numbersAt, marke
 
 // The number in two bytes, high byte first.
 pub fn word_at(s: &[u8], at: usize) -> usize
-    requires { ⌜ at < 1048576 ⌝ }
     ensures { λ r. ⌜ (r ≡ numberAt (now (s .entry)) at) × (r ≤ 65535) ⌝ }
 {
-    (book::byte_at(s, at) as usize) * 256 + (book::byte_at(s, at + 1) as usize)
+    book::number_at(s, at) as usize
 }
 
 // The number in four bytes.

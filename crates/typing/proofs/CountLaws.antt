@@ -12,7 +12,7 @@ use borrow.Author.Tests.{eqb-true, eqb-false, ne-eqb}
 use lib.ListN.{length, getD, set, length-set}
 use lib.Seq.{getD-set-same, getD-set-other}
 use Rattle.rules.specs.Parts.{Part, Id, Drop, Test, Set, Not, Sum, Seq, Beside, Table, Open, parts, deep}
-use Rattle.rules.specs.Reading.{partAt, built, after, below}
+use Rattle.rules.specs.Reading.{partAt, head, built, after, below}
 use Rattle.rules.proofs.CodeLaws.{by-code}
 use Rattle.typing.specs.Walking.{shut, noted, noteUse}
 use Rattle.typing.specs.Summing.{total, reach, top}
@@ -45,10 +45,10 @@ Shut n (Table x r w start p) = ⊥
 Shut n (Open x r w) = x < n
 
 fill-code : (s : List ℕ) (named : ℕ → Part) (at : ℕ) (l r : Part) (c : ℕ)
-    → built s named at c (filled named l) (filled named r) ≡ filled named (built s (shut s) at c l r)
+    → built (head s at) named c (filled named l) (filled named r) ≡ filled named (built (head s at) (shut s) c l r)
 unfolding built filled shut
 fill-code s named at l r =
-    by-code (λ c. built s named at c (filled named l) (filled named r) ≡ filled named (built s (shut s) at c l r)) refl refl refl refl refl
+    by-code (λ c. built (head s at) named c (filled named l) (filled named r) ≡ filled named (built (head s at) (shut s) c l r)) refl refl refl refl refl
     refl refl refl refl (λ c. refl)
 
 -- the decoder with the bodies is the decoder without them, filled

@@ -11,7 +11,7 @@ use Rattle.rules.specs.declared.Reading.the-variants.{Next, Wrong}
 use Rattle.rules.specs.Codes.{partsOf}
 use Rattle.rules.specs.Parts.{Part, Id, write, size, parts, deep}
 use Rattle.rules.specs.Typing.{wrongs}
-use Rattle.rules.specs.Reading.{stands, partAt, built}
+use Rattle.rules.specs.Reading.{stands, partAt, head, built}
 use Rattle.rules.proofs.CodeLaws.{by-code}
 use Rattle.typing.specs.declared.Walked.{Walked}
 use Rattle.typing.specs.declared.Walked.the-variants.{On, Off}
@@ -77,12 +77,12 @@ module _ (s : List ℕ) (o n st z : ℕ) (m u : List ℕ) (v : Moved st n z) whe
 
 -- a part with no parts below it
 leaf-quiet : (s : List ℕ) (at place : ℕ) (l r : Part) (c : ℕ) → partsOf c ≡ 0
-    → (wrongs place (built s (shut s) at c l r) ≡ []) × (deep (built s (shut s) at c l r) ≡ 0) × (parts (built s (shut s) at c l r) ≡ 1)
-    × (1 ≤ size (built s (shut s) at c l r))
+    → (wrongs place (built (head s at) (shut s) c l r) ≡ []) × (deep (built (head s at) (shut s) c l r) ≡ 0) × (parts (built (head s at) (shut s) c l r) ≡ 1)
+    × (1 ≤ size (built (head s at) (shut s) c l r))
 unfolding built wrongs deep parts shut write
 leaf-quiet s at place l r =
-    by-code (λ c. partsOf c ≡ 0 → (wrongs place (built s (shut s) at c l r) ≡ []) × (deep (built s (shut s) at c l r) ≡ 0)
-    × (parts (built s (shut s) at c l r) ≡ 1) × (1 ≤ size (built s (shut s) at c l r)))
+    by-code (λ c. partsOf c ≡ 0 → (wrongs place (built (head s at) (shut s) c l r) ≡ []) × (deep (built (head s at) (shut s) c l r) ≡ 0)
+    × (parts (built (head s at) (shut s) c l r) ≡ 1) × (1 ≤ size (built (head s at) (shut s) c l r)))
     (λ e. (refl, refl, refl, omega arith)) (λ e. (refl, refl, refl, omega arith)) (λ e. (refl, refl, refl, omega arith))
     (λ e. (refl, refl, refl, omega arith)) (λ e. absurd (omega arith)) (λ e. absurd (omega arith)) (λ e. absurd (omega arith))
     (λ e. absurd (omega arith)) (λ e. (refl, refl, refl, omega arith)) (λ c e. (refl, refl, refl, omega arith))

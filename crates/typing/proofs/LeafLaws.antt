@@ -80,17 +80,17 @@ pub masked-by : (s : List ℕ) (x st r w y : ℕ) → r ≡ readsAt s x → w �
 masked-by s x st r w y er ew m = rw (← er, ← ew) m
 
 -- each code's own part
-pub test-is : (s : List ℕ) (named : ℕ → Part) (at : ℕ) → let p = built s named at 2 Id Id in
+pub test-is : (s : List ℕ) (named : ℕ → Part) (at : ℕ) → let p = built (head s at) named 2 Id Id in
     (size p ≡ 1 + operandsOf 2) × (parts p ≡ 1) × (tested p ≡ field (head s at .field)) × (written p ≡ 0)
 unfolding built write parts tested written
 test-is s named at = (refl, refl, refl, refl)
 
-pub set-is : (s : List ℕ) (named : ℕ → Part) (at : ℕ) → let p = built s named at 3 Id Id in
+pub set-is : (s : List ℕ) (named : ℕ → Part) (at : ℕ) → let p = built (head s at) named 3 Id Id in
     (size p ≡ 1 + operandsOf 3) × (parts p ≡ 1) × (tested p ≡ 0) × (written p ≡ field (head s at .field))
 unfolding built write parts tested written
 set-is s named at = (refl, refl, refl, refl)
 
-pub use-is : (s : List ℕ) (at : ℕ) → let p = built s (shut s) at 8 Id Id in let x = head s at .table in
+pub use-is : (s : List ℕ) (at : ℕ) → let p = built (head s at) (shut s) 8 Id Id in let x = head s at .table in
     (size p ≡ 1 + operandsOf 8) × (parts p ≡ 1) × (tested p ≡ bitOr (readsAt s x) (writesAt s x)) × (written p ≡ writesAt s x)
     × ((o : ℕ) (l : List ℕ) → noted p o l ≡ noteUse x o l)
 unfolding built write parts tested written shut noted
@@ -109,13 +109,13 @@ pub leaf-stop : (s : List ℕ) (c : Scope) (d : ℕ) (pred : Bool) (at : ℕ) �
     → readPart s c d pred at ≡ Wrong at
 leaf-stop s c d pred at h st = part-wrong s c d pred at at (sym (byte-wrong s (stands (c .main) pred) at h st))
 
-leaf-part : (s : List ℕ) (at code : ℕ) → getD s at 0 ≡ code → leafAt s at ≡ built s (shut s) at code Id Id
+leaf-part : (s : List ℕ) (at code : ℕ) → getD s at 0 ≡ code → leafAt s at ≡ built (head s at) (shut s) code Id Id
 unfolding partAt
 leaf-part s at code e = rw e
 
 module _ (s : List ℕ) (st way code r : ℕ) (u v : List ℕ) (e : getD s (placeIn st) 0 ≡ code) (h : placeIn st < length s) where
   pub leaf-on : stands (inMain way) (predOf way) code ≡ true → partsOf code ≡ 0
-      → let p = built s (shut s) (placeIn st) code Id Id in
+      → let p = built (head s (placeIn st)) (shut s) code Id Id in
       let ro = readOperands s (fieldsOf s) (tablesOf s) code (placeIn st) in
       Leafed s st p ro r × Noted (openOf way) p ro u v
       → Leafed s st (leafAt s (placeIn st)) (leafRead s way (placeIn st)) r
@@ -129,18 +129,18 @@ module _ (s : List ℕ) (st way code r : ℕ) (u v : List ℕ) (e : getD s (plac
   leaf-off not-here z = rw (leaf-stop s (scopeAt s way) 1 (predOf way) (placeIn st) h (rw e not-here)) ((z, omega arith), tt)
 
 -- a test and a set note no use
-pub test-noted : (s : List ℕ) (at o : ℕ) (u : List ℕ) (ro : Reading) → Noted o (built s (shut s) at 2 Id Id) ro u u
+pub test-noted : (s : List ℕ) (at o : ℕ) (u : List ℕ) (ro : Reading) → Noted o (built (head s at) (shut s) 2 Id Id) ro u u
 unfolding noted built
 test-noted s at o u (Next e) = (refl, refl, λ n y a b h. omega (arith, h y))
 test-noted s at o u (Wrong a) = tt
 
-pub set-noted : (s : List ℕ) (at o : ℕ) (u : List ℕ) (ro : Reading) → Noted o (built s (shut s) at 3 Id Id) ro u u
+pub set-noted : (s : List ℕ) (at o : ℕ) (u : List ℕ) (ro : Reading) → Noted o (built (head s at) (shut s) 3 Id Id) ro u u
 unfolding noted built
 set-noted s at o u (Next e) = (refl, refl, λ n y a b h. omega (arith, h y))
 set-noted s at o u (Wrong a) = tt
 
 pub use-noted : (s : List ℕ) (at o e : ℕ) (u v : List ℕ) (r ro : Reading) → r ≡ ro → r ≡ Next e → v ≡ noteUse (head s at .table) o u
-    → head s at .table < 16 → Noted o (built s (shut s) at 8 Id Id) ro u v
+    → head s at .table < 16 → Noted o (built (head s at) (shut s) 8 Id Id) ro u v
 use-noted s at o e u v r ro q re h l =
     rw (← q, re) (
       h ∙ sym (use-is s at .4 o u),
@@ -162,7 +162,7 @@ pub use-left : (s : List ℕ) (st y z o level e : ℕ) (u v : List ℕ) (h : Hea
     → r ≡ readOperands s (fieldsOf s) (tablesOf s) 8 (placeIn st) → r ≡ Next e → tablesOf s ≤ mostTables → level ≡ o
     → v ≡ noteUse (h .table) level u
     → Masked st (bitOr (readsAt s (h .table)) (writesAt s (h .table))) (writesAt s (h .table)) y → Moved y (operandsOf 8) z
-    → let p = built s (shut s) (placeIn st) 8 Id Id in
+    → let p = built (head s (placeIn st)) (shut s) 8 Id Id in
     let ro = readOperands s (fieldsOf s) (tablesOf s) 8 (placeIn st) in
     Leafed s st p ro z × Noted o p ro u v
 use-left s st y z o level e u v h {r} eh q re few el ev m w =
@@ -176,9 +176,9 @@ pub wrong-noted : (s : List ℕ) (o a : ℕ) (p : Part) (u v : List ℕ) (r ro :
 wrong-noted s o a p u v r ro q re = rw (← q, re) tt
 
 -- id and drop
-plain-is : (s : List ℕ) (at code : ℕ) → code < 2 → (operandsOf code ≡ 0) × (let p = built s (shut s) at code Id Id in
+plain-is : (s : List ℕ) (at code : ℕ) → code < 2 → (operandsOf code ≡ 0) × (let p = built (head s at) (shut s) code Id Id in
     (size p ≡ 1) × (parts p ≡ 1) × (tested p ≡ 0) × (written p ≡ 0))
-    × ((o : ℕ) (l : List ℕ) → noted (built s (shut s) at code Id Id) o l ≡ l)
+    × ((o : ℕ) (l : List ℕ) → noted (built (head s at) (shut s) code Id Id) o l ≡ l)
 unfolding built write parts tested written noted
 plain-is s at zero h = (refl, (refl, refl, refl, refl), λ o l. refl)
 plain-is s at (suc zero) h = (refl, (refl, refl, refl, refl), λ o l. refl)
@@ -186,7 +186,7 @@ plain-is s at (suc (suc c)) h = absurd (omega arith)
 
 pub plain-leaf : (s : List ℕ) (st way code r : ℕ) (u : List ℕ) → code < 2 → getD s (placeIn st) 0 ≡ code → placeIn st < length s
     → Moved st 0 r
-    → let p = built s (shut s) (placeIn st) code Id Id in
+    → let p = built (head s (placeIn st)) (shut s) code Id Id in
     let ro = readOperands s (fieldsOf s) (tablesOf s) code (placeIn st) in
     Leafed s st p ro r × Noted (openOf way) p ro u u
 plain-leaf s st way code r u l e h m =

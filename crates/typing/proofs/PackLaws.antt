@@ -49,9 +49,6 @@ masked st t w r h ht hw e =
     (or-small (testsIn st) t (omega arith) ht) (or-small (writesIn st) w (omega arith) hw) e′ in
     record { place = p .0 ∙ low-place st; parts = p .1 ∙ low-parts st; tests = p .2; writes = p .3 }
 
-pub low-bit : (k : ℕ) → k ≤ 8 → 1 * 2 ^ k % 65536 ≡ 2 ^ k
-low-bit k h = let l : k < 16 = omega arith in rw one-mul (mod-eq-of-lt (pow-lt l))
-
 pub wide-bit : (k : ℕ) → k < 8 → (1 * 2 ^ k % 18446744073709551616 ≡ 2 ^ k) × (2 ^ k < 65536)
 wide-bit k h = let l : k < 64 = omega arith in let m : k < 16 = omega arith in (rw one-mul (mod-eq-of-lt (pow-lt l)), pow-lt m)
 

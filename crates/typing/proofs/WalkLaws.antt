@@ -26,16 +26,16 @@ pub deeper : (d : ℕ) → (d ≡ 0 → ⊥) → d ≡ suc (d - 1)
 deeper zero h = absurd (h refl)
 deeper (suc d) h = omega arith
 
-same-leaf : (s : List ℕ) (at : ℕ) (l r l′ r′ : Part) (c : ℕ) → partsOf c ≡ 0 → built s (shut s) at c l r ≡ built s (shut s) at c l′ r′
+same-leaf : (s : List ℕ) (at : ℕ) (l r l′ r′ : Part) (c : ℕ) → partsOf c ≡ 0 → built (head s at) (shut s) c l r ≡ built (head s at) (shut s) c l′ r′
 unfolding built
 same-leaf s at l r l′ r′ =
-    by-code (λ c. partsOf c ≡ 0 → built s (shut s) at c l r ≡ built s (shut s) at c l′ r′) (λ e. refl) (λ e. refl) (λ e. refl)
+    by-code (λ c. partsOf c ≡ 0 → built (head s at) (shut s) c l r ≡ built (head s at) (shut s) c l′ r′) (λ e. refl) (λ e. refl) (λ e. refl)
     (λ e. refl) (λ e. absurd (omega arith)) (λ e. absurd (omega arith)) (λ e. absurd (omega arith)) (λ e. absurd (omega arith))
     (λ e. refl) (λ c e. refl)
 
 -- the part that a code with no operands builds
 two-part : (s : List ℕ) (named : ℕ → Part) (d at code : ℕ) → getD s at 0 ≡ code → operandsOf code ≡ 0
-    → partAt s named (suc d) at ≡ built s named at code (partAt s named d (at + 1 + 0)) (partAt s named d (after s d (at + 1 + 0)))
+    → partAt s named (suc d) at ≡ built (head s at) named code (partAt s named d (at + 1 + 0)) (partAt s named d (after s d (at + 1 + 0)))
 unfolding partAt
 two-part s named d at code e n = rw (e, n)
 
@@ -128,7 +128,7 @@ module _ (s : List ℕ) (sound : Sound s) (way : ℕ) where
   -- g is what the code builds of its two parts
   walk-two : (d code : ℕ) (g : Part → Part → Part) (t : Tally) → getD s (t .at) 0 ≡ code → operandsOf code ≡ 0 → partsOf code ≡ 2
       → eqb code 4 ≡ false → stands (inMain way) (predOf way) code ≡ true → t .at < length s
-      → ((l r : Part) → built s (shut s) (t .at) code l r ≡ g l r)
+      → ((l r : Part) → built (head s (t .at)) (shut s) code l r ≡ g l r)
       → ((p q : Part) → told (g p q) (openOf way) t ≡ told q (openOf way) (told p (openOf way) (stepped 0 t)))
       → walked s way (suc d) t ≡ andOn (walked s way d (stepped 0 t)) (walked s way d)
   unfolding walked

@@ -23,7 +23,7 @@ ghost use Rattle.rules.specs.Codes.{operandsOf, partsOf};
 ghost use Rattle.rules.specs.Parts.{Id};
 ghost use Rattle.rules.specs.Masks.{field};
 ghost use Rattle.rules.specs.Typing.{fitMasks};
-ghost use Rattle.rules.specs.Reading.{readOperands, fieldsOf, tablesOf, built, readsAt, writesAt, verdict};
+ghost use Rattle.rules.specs.Reading.{readOperands, fieldsOf, tablesOf, head, built, readsAt, writesAt, verdict};
 ghost use Rattle.rules.specs.Promises.{AcceptAnswer};
 ghost use Rattle.typing.specs.Walking.{placeIn, partsIn, testsIn, writesIn, Moved, Masked, Bare, Joins, rightStates};
 ghost use Rattle.typing.specs.Walking.{openOf, predOf, inMain, firstOf, faultAfter, noteUse, shut, tallyOf, walked};
@@ -242,7 +242,7 @@ fn note_use(uses: &mut [u16; 32], x: usize, level: u16)
 // A test of a field.
 fn test_part(s: &[u8], st: u64) -> u64
     requires { ⌜ Sound (now s) × (placeIn st < length (now s)) × (partsIn st ≤ placeIn st) ⌝ }
-    ensures { λ r. ⌜ Leafed (now (s .entry)) st (built (now (s .entry)) (shut (now (s .entry))) (placeIn st) 2 Id Id)
+    ensures { λ r. ⌜ Leafed (now (s .entry)) st (built (head (now (s .entry)) (placeIn st)) (shut (now (s .entry))) 2 Id Id)
         (readOperands (now (s .entry)) (fieldsOf (now (s .entry))) (tablesOf (now (s .entry))) 2 (placeIn st)) r ⌝ }
 {
     let at = (st % WIDTH) as usize;
@@ -257,7 +257,7 @@ fn test_part(s: &[u8], st: u64) -> u64
 // A set of a field.
 fn set_part(s: &[u8], st: u64) -> u64
     requires { ⌜ Sound (now s) × (placeIn st < length (now s)) × (partsIn st ≤ placeIn st) ⌝ }
-    ensures { λ r. ⌜ Leafed (now (s .entry)) st (built (now (s .entry)) (shut (now (s .entry))) (placeIn st) 3 Id Id)
+    ensures { λ r. ⌜ Leafed (now (s .entry)) st (built (head (now (s .entry)) (placeIn st)) (shut (now (s .entry))) 3 Id Id)
         (readOperands (now (s .entry)) (fieldsOf (now (s .entry))) (tablesOf (now (s .entry))) 3 (placeIn st)) r ⌝ }
 {
     let at = (st % WIDTH) as usize;
@@ -282,9 +282,9 @@ fn use_masks(s: &[u8], st: u64, x: u8) -> u64
 // A use of a table.
 fn use_part(s: &[u8], uses: &mut [u16; 32], st: u64, way: usize) -> u64
     requires { ⌜ LeafAsked (now s) (now uses) st way ⌝ }
-    ensures { λ r. ⌜ Leafed (now (s .entry)) st (built (now (s .entry)) (shut (now (s .entry))) (placeIn st) 8 Id Id)
+    ensures { λ r. ⌜ Leafed (now (s .entry)) st (built (head (now (s .entry)) (placeIn st)) (shut (now (s .entry))) 8 Id Id)
         (readOperands (now (s .entry)) (fieldsOf (now (s .entry))) (tablesOf (now (s .entry))) 8 (placeIn st)) r
-        × Noted (openOf way) (built (now (s .entry)) (shut (now (s .entry))) (placeIn st) 8 Id Id)
+        × Noted (openOf way) (built (head (now (s .entry)) (placeIn st)) (shut (now (s .entry))) 8 Id Id)
         (readOperands (now (s .entry)) (fieldsOf (now (s .entry))) (tablesOf (now (s .entry))) 8 (placeIn st))
         (now (uses .entry)) (now (uses .exit)) ⌝ }
 {
