@@ -18,7 +18,7 @@ use Rattle.rules.specs.declared.Reading.{Reading}
 use Rattle.rules.specs.declared.Reading.the-variants.{Next, Wrong}
 use Rattle.rules.specs.Books.{Scope, mostDepth}
 use Rattle.rules.proofs.CodeLaws.{by-code}
-use Rattle.rules.specs.Reading.{andThen, byteIf, standing, stands, later, operandsWrong, judged, operandsAt, readOperands}
+use Rattle.rules.specs.Reading.{andThen, byteIf, standing, stands, later, fieldWrong, operandsWrong, judged, operandsAt, readOperands}
 use Rattle.rules.specs.Reading.{readPart, readBody, head, headAt}
 
 -- the three answers at a byte
@@ -125,19 +125,25 @@ operands-none s k m code at z h =
 
 -- what the operands of a test, a set and a use of a table are known to be
 module _ (s : List ℕ) (k m at e : ℕ) where
-  pub test-known : readOperands s k m 2 at ≡ Next e → head s at .field < k
-  unfolding operandsWrong
-  test-known q =
-      let w = operands-were s k m 2 at e q in
-      let there : operandsAt s 2 at ≡ head s at .field ∷ take 2 (drop (at + 1 + 1) s) = some-there s 2 (at + 1) (omega (arith, w .1)) in
-      ltb-true (head s at .field) k (none-wrong _ _ (rw there at (w .2)) .0)
+  known : at + 1 + 3 ≤ length s → fieldWrong k (take 3 (drop (at + 1) s)) ≡ none → head s at .field < k
+  known h w =
+      let there : take 3 (drop (at + 1) s) ≡ head s at .field ∷ take 2 (drop (at + 1 + 1) s) = some-there s 2 (at + 1) (omega arith) in
+      ltb-true (head s at .field) k (none-wrong _ _ (rw there at w) .0)
 
-  pub set-known : readOperands s k m 3 at ≡ Next e → head s at .field < k
+  pub field-known : (code : ℕ) → 2 ≤ code → code < 4 → readOperands s k m code at ≡ Next e → head s at .field < k
   unfolding operandsWrong
-  set-known q =
-      let w = operands-were s k m 3 at e q in
-      let there : operandsAt s 3 at ≡ head s at .field ∷ take 2 (drop (at + 1 + 1) s) = some-there s 2 (at + 1) (omega (arith, w .1)) in
-      ltb-true (head s at .field) k (none-wrong _ _ (rw there at (w .2)) .0)
+  field-known code h l q =
+      let w = operands-were s k m code at e q in
+      go code h l (w .1) (w .2)
+    where
+      go : (code : ℕ) → 2 ≤ code → code < 4 → at + 1 + operandsOf code ≤ length s → operandsWrong k m code (operandsAt s code at) ≡ none
+          → head s at .field < k
+      go =
+          by-code (λ c. 2 ≤ c → c < 4 → at + 1 + operandsOf c ≤ length s → operandsWrong k m c (operandsAt s c at) ≡ none
+          → head s at .field < k)
+          (λ a b x y. absurd (omega arith)) (λ a b x y. absurd (omega arith)) (λ a b. known) (λ a b. known)
+          (λ a b x y. absurd (omega arith)) (λ a b x y. absurd (omega arith)) (λ a b x y. absurd (omega arith))
+          (λ a b x y. absurd (omega arith)) (λ a b x y. absurd (omega arith)) (λ c a b x y. absurd (omega arith))
 
   pub use-known : readOperands s k m 8 at ≡ Next e → (0 < head s at .table) × (head s at .table ≤ m)
   unfolding operandsWrong

@@ -2,7 +2,7 @@
 use Prim.Native.Nat.{ℕ, zero, suc, _+_, _*_, _/_, _%_, _<_, _≤_}
 use native.Mathlib.Omega.{arith}
 use mathlib.Core.Path.{_≡_, refl, sym, ap, _∙_}
-use mathlib.Core.Bool.{Bool, true, false, not, _&&_}
+use mathlib.Core.Bool.{Bool, true, false, not, cond, _&&_}
 use mathlib.Core.Logic.{_⊎_, inl, inr, ⊎-elim}
 use mathlib.Core.List.{List}
 use lib.Bits.{bitOr, or-zero-r}
@@ -80,15 +80,17 @@ pub masked-by : (s : List ℕ) (x st r w y : ℕ) → r ≡ readsAt s x → w �
 masked-by s x st r w y er ew m = rw (← er, ← ew) m
 
 -- each code's own part
-pub test-is : (s : List ℕ) (named : ℕ → Part) (at : ℕ) → let p = built (head s at) named 2 Id Id in
-    (size p ≡ 1 + operandsOf 2) × (parts p ≡ 1) × (tested p ≡ field (head s at .field)) × (written p ≡ 0)
-unfolding built write parts tested written
-test-is s named at = (refl, refl, refl, refl)
-
-pub set-is : (s : List ℕ) (named : ℕ → Part) (at : ℕ) → let p = built (head s at) named 3 Id Id in
-    (size p ≡ 1 + operandsOf 3) × (parts p ≡ 1) × (tested p ≡ 0) × (written p ≡ field (head s at .field))
-unfolding built write parts tested written
-set-is s named at = (refl, refl, refl, refl)
+pub field-is : (h : Head) (named : ℕ → Part) (code : ℕ) → 2 ≤ code → code < 4 → let p = built h named code Id Id in
+    (size p ≡ 1 + operandsOf code) × (parts p ≡ 1) × (tested p ≡ cond (eqb code 2) (field (h .field)) 0)
+    × (written p ≡ cond (eqb code 3) (field (h .field)) 0) × ((o : ℕ) (l : List ℕ) → noted p o l ≡ l)
+unfolding built write parts tested written noted
+field-is h named =
+    by-code (λ code. 2 ≤ code → code < 4 → let p = built h named code Id Id in
+    (size p ≡ 1 + operandsOf code) × (parts p ≡ 1) × (tested p ≡ cond (eqb code 2) (field (h .field)) 0)
+    × (written p ≡ cond (eqb code 3) (field (h .field)) 0) × ((o : ℕ) (l : List ℕ) → noted p o l ≡ l))
+    (λ a b. absurd (omega arith)) (λ a b. absurd (omega arith)) (λ a b. (refl, refl, refl, refl, λ o l. refl))
+    (λ a b. (refl, refl, refl, refl, λ o l. refl)) (λ a b. absurd (omega arith)) (λ a b. absurd (omega arith)) (λ a b. absurd (omega arith))
+    (λ a b. absurd (omega arith)) (λ a b. absurd (omega arith)) (λ c a b. absurd (omega arith))
 
 pub use-is : (s : List ℕ) (at : ℕ) → let p = built (head s at) (shut s) 8 Id Id in let x = head s at .table in
     (size p ≡ 1 + operandsOf 8) × (parts p ≡ 1) × (tested p ≡ bitOr (readsAt s x) (writesAt s x)) × (written p ≡ writesAt s x)
@@ -129,15 +131,17 @@ module _ (s : List ℕ) (st way code r : ℕ) (u v : List ℕ) (e : getD s (plac
   leaf-off not-here z = rw (leaf-stop s (scopeAt s way) 1 (predOf way) (placeIn st) h (rw e not-here)) ((z, omega arith), tt)
 
 -- a test and a set note no use
-pub test-noted : (s : List ℕ) (at o : ℕ) (u : List ℕ) (ro : Reading) → Noted o (built (head s at) (shut s) 2 Id Id) ro u u
-unfolding noted built
-test-noted s at o u (Next e) = (refl, refl, λ n y a b h. omega (arith, h y))
-test-noted s at o u (Wrong a) = tt
+field-noted : (s : List ℕ) (at o code : ℕ) (u : List ℕ) (ro : Reading) → 2 ≤ code → code < 4
+    → Noted o (built (head s at) (shut s) code Id Id) ro u u
+field-noted s at o code u (Next e) h l = (sym (field-is (head s at) (shut s) code h l .4 o u), refl, λ n y a b h. omega (arith, h y))
+field-noted s at o code u (Wrong a) h l = tt
 
-pub set-noted : (s : List ℕ) (at o : ℕ) (u : List ℕ) (ro : Reading) → Noted o (built (head s at) (shut s) 3 Id Id) ro u u
-unfolding noted built
-set-noted s at o u (Next e) = (refl, refl, λ n y a b h. omega (arith, h y))
-set-noted s at o u (Wrong a) = tt
+pub field-on : (s : List ℕ) (st way code r : ℕ) (u : List ℕ) → 2 ≤ code → code < 4
+    → let p = built (head s (placeIn st)) (shut s) code Id Id in
+    let ro = readOperands s (fieldsOf s) (tablesOf s) code (placeIn st) in
+    Leafed s st p ro r → Leafed s st p ro r × Noted (openOf way) p ro u u
+field-on s st way code r u lo up w =
+    (w, field-noted s (placeIn st) (openOf way) code u (readOperands s (fieldsOf s) (tablesOf s) code (placeIn st)) lo up)
 
 pub use-noted : (s : List ℕ) (at o e : ℕ) (u v : List ℕ) (r ro : Reading) → r ≡ ro → r ≡ Next e → v ≡ noteUse (head s at .table) o u
     → head s at .table < 16 → Noted o (built (head s at) (shut s) 8 Id Id) ro u v
@@ -147,6 +151,17 @@ use-noted s at o e u v r ro q re h l =
       ap length h ∙ use-room u (head s at .table) o,
       λ n y a b f. rw h (use-few u (head s at .table) o n y b l a f),
     )
+
+-- a test or a set, once its operands are read: b is its field's mask, in T or in M
+pub field-left : (s : List ℕ) (st y z e b t w code : ℕ) (h : Head) {r : Reading} → 2 ≤ code → code < 4 → h ≡ head s (placeIn st)
+    → r ≡ readOperands s (fieldsOf s) (tablesOf s) code (placeIn st) → r ≡ Next e → b ≡ field (h .field)
+    → t ≡ cond (eqb code 2) b 0 → w ≡ cond (eqb code 3) b 0 → Masked st t w y → Moved y (operandsOf code) z
+    → Leafed s st (built (head s (placeIn st)) (shut s) code Id Id) (readOperands s (fieldsOf s) (tablesOf s) code (placeIn st)) z
+field-left s st y z e b t w code h {r} lo up eh q re eb et ew m v =
+    let i = field-is (head s (placeIn st)) (shut s) code lo up in
+    let bit : b ≡ field (head s (placeIn st) .field) = eb ∙ ap (λ (h : Head). field (h .field)) eh in
+    leafed-next s st y z t w code e _ r q re m v (i .0) (i .1)
+    (i .2 ∙ ap (λ (x : ℕ). cond (eqb code 2) x 0) (sym bit) ∙ sym et) (i .3 ∙ ap (λ (x : ℕ). cond (eqb code 3) x 0) (sym bit) ∙ sym ew)
 
 -- a use of a table may be noted
 pub note-asked : (s u : List ℕ) (st e : ℕ) {way : ℕ} {h : Head} {r : Reading} → h ≡ head s (placeIn st)

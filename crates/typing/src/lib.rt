@@ -239,34 +239,30 @@ fn note_use(uses: &mut [u16; 32], x: usize, level: u16)
 
 // ---- a part with no parts below it
 
-// A test of a field.
-fn test_part(s: &[u8], st: u64) -> u64
-    requires { ⌜ Sound (now s) × (placeIn st < length (now s)) × (partsIn st ≤ placeIn st) ⌝ }
-    ensures { λ r. ⌜ Leafed (now (s .entry)) st (built (head (now (s .entry)) (placeIn st)) (shut (now (s .entry))) 2 Id Id)
-        (readOperands (now (s .entry)) (fieldsOf (now (s .entry))) (tablesOf (now (s .entry))) 2 (placeIn st)) r ⌝ }
+// A mask, where it is asked for.
+fn mask_if(asked: bool, mask: u64) -> u64
+    ensures { λ r. ⌜ (r ≡ cond asked mask 0) × (r ≤ mask) ⌝ }
 {
-    let at = (st % WIDTH) as usize;
-    let ops = book::read_operands(s, 2, at);
-    let Reading::Next(next) = ops else {
-        return refused(ops);
-    };
-    let h = book::head_at(s, at);
-    past(with_masks(st, field_bit(h.field), 0), 2)
+    if asked { mask } else { 0 }
 }
 
-// A set of a field.
-fn set_part(s: &[u8], st: u64) -> u64
-    requires { ⌜ Sound (now s) × (placeIn st < length (now s)) × (partsIn st ≤ placeIn st) ⌝ }
-    ensures { λ r. ⌜ Leafed (now (s .entry)) st (built (head (now (s .entry)) (placeIn st)) (shut (now (s .entry))) 3 Id Id)
-        (readOperands (now (s .entry)) (fieldsOf (now (s .entry))) (tablesOf (now (s .entry))) 3 (placeIn st)) r ⌝ }
+// A test or a set of a field, by its code.
+fn field_part(s: &[u8], st: u64, code: u8) -> u64
+    requires { ⌜ Sound (now s) × (placeIn st < length (now s)) × (partsIn st ≤ placeIn st) × (2 ≤ code) × (code < 4) ⌝ }
+    ensures { λ r. ⌜ Leafed (now (s .entry)) st (built (head (now (s .entry)) (placeIn st)) (shut (now (s .entry))) code Id Id)
+        (readOperands (now (s .entry)) (fieldsOf (now (s .entry))) (tablesOf (now (s .entry))) code (placeIn st)) r ⌝ }
 {
     let at = (st % WIDTH) as usize;
-    let ops = book::read_operands(s, 3, at);
+    let ops = book::read_operands(s, code, at);
     let Reading::Next(next) = ops else {
         return refused(ops);
     };
     let h = book::head_at(s, at);
-    past(with_masks(st, 0, field_bit(h.field)), 3)
+    let bit = field_bit(h.field);
+    past(
+        with_masks(st, mask_if(code == 2, bit), mask_if(code == 3, bit)),
+        code,
+    )
 }
 
 // A use of table x goes by the masks that its entry declares.
@@ -309,13 +305,13 @@ fn leaf(s: &[u8], uses: &mut [u16; 32], st: u64, way: usize) -> u64
     let code = s[at];
     match code {
         0 | 1 => past(st, 0),
-        2 => test_part(s, st),
+        2 => field_part(s, st, 2),
         // A set is no predicate.
         3 => {
             if way / 2 % 2 == 1 {
                 return refusal(at);
             }
-            set_part(s, st)
+            field_part(s, st, 3)
         }
         // A table may be used only in the main body, and is no predicate.
         8 => {

@@ -2,11 +2,9 @@
 use native.Mathlib.Omega.{arith}
 use mathlib.Core.Path.{refl}
 use Prim.Native.Nat.{_%_}
-use Rattle.rules.specs.Reading.{readOperands, fieldsOf, tablesOf}
-use Rattle.typing.specs.Walking.{openOf}
 use lib.ListN.{getD}
 use Rattle.rules.proofs.ReadingLaws.{stands-known, stands-unknown}
-use Rattle.typing.proofs.LeafLaws.{leaf-on, leaf-off, test-noted, set-noted, plain-leaf, low-parts-none, unknown-code}
+use Rattle.typing.proofs.LeafLaws.{leaf-on, leaf-off, field-on, plain-leaf, low-parts-none, unknown-code}
 use Rattle.typing.proofs.LeafLaws.{three-stops, three-stands, eight-stands, eight-stops}
 use borrow.Author.Needs.{needs}
 use Rattle.typing.proofs.leaf.Statement.{statement}
@@ -31,24 +29,16 @@ returns-3 : tie.Need-returns-3
 returns-3 c =
     let start = c .before .before .before .before in
     leaf-on _ _ (start .args .way) 2 _ _ _ (c .before .match .keys1) (start .pre .inside)
-    (stands-known _ _ 2 (omega arith) (λ e. omega arith)) refl (
-      c .test-part .ensures,
-      test-noted (start .args .s .now) (start .args .st % 65536) (openOf (start .args .way)) (start .args .uses .now)
-          (readOperands (start .args .s .now) (fieldsOf (start .args .s .now)) (tablesOf (start .args .s .now)) 2
-          (start .args .st % 65536)),
-    )
+    (stands-known _ _ 2 (omega arith) (λ e. omega arith)) refl
+    (field-on (start .args .s .now) (start .args .st) (start .args .way) 2 _ _ (omega arith) (omega arith) (c .field-part .ensures))
 
 returns-4 : tie.Need-returns-4
 returns-4 c =
     let at-match = c .before .before in
     let start = at-match .before .before .before in
     leaf-on _ _ (start .args .way) 3 _ _ _ (at-match .match .keys2) (start .pre .inside) (three-stands _ _ refl (c .before .if1 .left))
-    refl (
-      c .set-part .ensures,
-      set-noted (start .args .s .now) (start .args .st % 65536) (openOf (start .args .way)) (start .args .uses .now)
-          (readOperands (start .args .s .now) (fieldsOf (start .args .s .now)) (tablesOf (start .args .s .now)) 3
-          (start .args .st % 65536)),
-    )
+    refl
+    (field-on (start .args .s .now) (start .args .st) (start .args .way) 3 _ _ (omega arith) (omega arith) (c .field-part2 .ensures))
 
 returns-5 : tie.Need-returns-5
 returns-5 c =

@@ -1,15 +1,12 @@
--- `set_part` meets its contract. Assumes nothing.
+-- `field_part` meets its contract. Assumes nothing.
 use native.Mathlib.Omega.{arith}
-use mathlib.Core.Path.{sym, _∙_, ap}
-use Prim.Native.Nat.{_%_}
+use mathlib.Core.Path.{sym, ap, _∙_}
 use Rattle.rules.specs.declared.Head.{Head}
-use Rattle.rules.specs.Masks.{field}
-use Rattle.rules.proofs.ReadingLaws.{set-known}
-use Rattle.typing.proofs.LeafLaws.{wrong-within, leafed-wrong, leafed-next, shown, set-is}
-use Rattle.typing.specs.Walking.{shut}
+use Rattle.rules.proofs.ReadingLaws.{field-known}
+use Rattle.typing.proofs.LeafLaws.{wrong-within, leafed-wrong, field-left, shown}
 use borrow.Author.Needs.{needs}
-use Rattle.typing.proofs.set_part.Statement.{statement}
-use Rattle.typing.proofs.set_part.Tie as tie
+use Rattle.typing.proofs.field_part.Statement.{statement}
+use Rattle.typing.proofs.field_part.Tie as tie
 
 refused-requires : tie.Need-refused-requires
 refused-requires c κs =
@@ -29,23 +26,23 @@ field-bit-requires c κs =
     let at-read = at-ops .before .before in
     let start = at-read .before .before in
     let h = ap (λ (h : Head). h .field) (shown _ _ _ (start .pre .1) (c .head-at .ensures)) in
-    omega (arith, h, set-known _ _ _ _ _ (sym (at-read .read-operands .ensures .0) ∙ at-ops .ops .given .1), start .pre .0 .fields)
+    let read = sym (at-read .read-operands .ensures .0) ∙ at-ops .ops .given .1 in
+    omega (arith, h, field-known _ _ _ _ _ _ (start .pre .3) (start .pre .4) read, start .pre .0 .fields)
 
 returns-2 : tie.Need-returns-2
 returns-2 c =
-    let at-field-bit = c .before .before in
-    let at-ops = at-field-bit .before .before .before in
+    let at-mask-if = c .before .before .before in
+    let at-field-bit = at-mask-if .before in
+    let at-head = at-field-bit .before in
+    let at-ops = at-head .before .before in
     let at-read = at-ops .before .before in
     let start = at-read .before .before in
-    let a = start .args in
-    let h = ap (λ (h : Head). field (h .field)) (shown _ _ _ (start .pre .1) (at-field-bit .before .head-at .ensures)) in
-    let bit = at-field-bit .field-bit .ensures .0 ∙ h in
-    let i = set-is (a .s .now) (shut (a .s .now)) (a .st % 65536) in
-    leafed-next _ _ _ _ _ _ _ _ _ _ (at-read .read-operands .ensures .0) (at-ops .ops .given .1) (c .before .with-masks .ensures)
-    (c .past .ensures) (i .0) (i .1) (i .2) (i .3 ∙ sym bit)
+    field-left _ _ _ _ _ _ _ _ _ _ (start .pre .3) (start .pre .4) (shown _ _ _ (start .pre .1) (at-head .head-at .ensures))
+    (at-read .read-operands .ensures .0) (at-ops .ops .given .1) (at-field-bit .field-bit .ensures .0) (at-mask-if .mask-if .ensures .0)
+    (c .before .before .mask-if2 .ensures .0) (c .before .with-masks .ensures) (c .past .ensures)
 
-pub set-part-spec : {M : Type 1} → statement M
-set-part-spec =
+pub field-part-spec : {M : Type 1} → statement M
+field-part-spec =
     tie.close
     (tie.spec
     (λ c κs. search needs)
@@ -55,6 +52,8 @@ set-part-spec =
     returns
     (λ c κs. search needs)
     field-bit-requires
+    (λ c κs. search needs)
+    (λ c κs. search needs)
     (λ c κs. search needs)
     (λ c κs. search needs)
     returns-2)
