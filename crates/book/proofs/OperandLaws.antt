@@ -16,7 +16,8 @@ use Rattle.rules.specs.declared.Reading.the-variants.{Wrong, Next}
 use Rattle.rules.specs.declared.Shape.{Shape}
 use Rattle.rules.specs.Codes.{shapeAt, operandsOf}
 use Rattle.rules.specs.Masks.{inFields}
-use Rattle.rules.specs.Reading.{numberAt, noHead, headAt, later, fieldWrong, masksWrong, tableWrong, operandsWrong, operandsAt, readOperands}
+use Rattle.rules.specs.Reading.{numberAt, noHead, headAt, later, fieldWrong, masksWrong, tableWrong, operandsWrong, operandsAt}
+use Rattle.rules.specs.Reading.{readOperands}
 use Rattle.rules.proofs.CodeLaws.{by-code}
 use Rattle.rules.proofs.ReadingLaws.{none-there, empty-right, some-there, operands-next, operands-cut, operands-wrong}
 use Rattle.book.specs.Operands.{WrongPlace, Within}

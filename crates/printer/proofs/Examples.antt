@@ -14,7 +14,8 @@ use Rattle.rules.specs.Reading.{policyOf, wrongBody, misfit, wrongsIn, misfitsI
 use Rattle.rules.specs.Working.{each, out, steps, room, own, widest, width}
 use Rattle.rules.specs.States.{join, place, enter, finish, leave, next, live, move, run, counted, made, used, lacking, stuckSteps, stuckIn}
 use Rattle.rules.specs.Answers.{packetChecks, start, runChecks, ran}
-use Rattle.printer.specs.Printing.{decimalIn, furtherValues, valuesLine, packetLines, refusedLine, ranLines, ranIn, endsWith, printChecks, printed}
+use Rattle.printer.specs.Printing.{decimalIn, furtherValues, valuesLine, packetLines, refusedLine, ranLines, ranIn, endsWith}
+use Rattle.printer.specs.Printing.{printChecks, printed}
 
 -- 00 11, the 17-byte book, the packet 00 05 00 09
 abbrev pub before : List ℕ → List ℕ

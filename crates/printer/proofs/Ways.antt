@@ -74,11 +74,17 @@ module _ (input : List ℕ) where
             unfolding firstFailed
             printed-long-schedule h =
                 last
-                ∙ rw (le-leb (2 * fieldsOf (bookIn input)) (length (afterBook input)) packet, lt-leb (length (scheduleIn input)) mostChoices h)
+                ∙ rw (
+                  le-leb (2 * fieldsOf (bookIn input)) (length (afterBook input)) packet,
+                  lt-leb (length (scheduleIn input)) mostChoices h,
+                )
 
             pub printed-ran : length (scheduleIn input) ≤ mostChoices
                 → printed input ≡ ranLines (fieldsOf (bookIn input)) (endsWith input) (ranIn input)
             unfolding firstFailed
             printed-ran h =
                 last
-                ∙ rw (le-leb (2 * fieldsOf (bookIn input)) (length (afterBook input)) packet, le-leb (length (scheduleIn input)) mostChoices h)
+                ∙ rw (
+                  le-leb (2 * fieldsOf (bookIn input)) (length (afterBook input)) packet,
+                  le-leb (length (scheduleIn input)) mostChoices h,
+                )

@@ -157,7 +157,8 @@ module _ (book packet schedule : List ℕ) (words area : ℕ) where
   ran-refused r e = rw (failed-before (bookChecks book) _ r (refused-checks book r e))
 
   module _ (z : Sizes) (a : verdict book ≡ Accepted z) where
-    ran-past : ran book packet schedule words area ≡ ranBy (firstFailed (furtherChecks book packet schedule words area)) (stopOf book packet schedule)
+    ran-past : ran book packet schedule words area
+        ≡ ranBy (firstFailed (furtherChecks book packet schedule words area)) (stopOf book packet schedule)
     unfolding ran runChecks
     ran-past = rw (after-held (bookChecks book) _ (accepted-checks book z a))
 

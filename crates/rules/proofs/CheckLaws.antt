@@ -87,7 +87,8 @@ pub of-more : (P Q : Refusal → Type 0) → ((r : Refusal) → P r → Q r) →
 of-more P Q f [] h = no-more
 of-more P Q f (c ∷ cs) (p also h) = f (c .refusal) p also of-more P Q f cs h
 
-by-case : (Q : Refusal → Type 0) (b : Bool) (o : Option Refusal) (q r : Refusal) → cond b o (some q) ≡ some r → Q q → (o ≡ some r → Q r) → Q r
+by-case : (Q : Refusal → Type 0) (b : Bool) (o : Option Refusal) (q r : Refusal) → cond b o (some q) ≡ some r → Q q
+    → (o ≡ some r → Q r) → Q r
 by-case Q true o q r e h k = k e
 by-case Q false o q r e h k = let same : q ≡ r = cc in subst Q same h
 

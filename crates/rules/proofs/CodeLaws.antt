@@ -59,7 +59,8 @@ module _ (s : List ℕ) (named : ℕ → Part) (d at : ℕ) (hd : d ≡ 0 → �
       go (suc d) hd false e = record { part = rw (List·getD-eq-default s 0 (ltb-false at (length s) e)); next = rw e }
 
   pub stands-as : (c : ℕ) → h .code ≡ c → Stands s named d at (built h named c first second) (skip (partsOf c) (after s (d - 1)) (h .from))
-  stands-as c e = subst (λ (x : ℕ). Stands s named d at (built h named x first second) (skip (partsOf x) (after s (d - 1)) (h .from))) e stands-head
+  stands-as c e =
+      subst (λ (x : ℕ). Stands s named d at (built h named x first second) (skip (partsOf x) (after s (d - 1)) (h .from))) e stands-head
 
   -- code 0 and the unknown codes
   pub stands-plain : (c : ℕ) → h .code ≡ c → (c < 1) ⊎ (8 < c) → Stands s named d at Id (h .from)

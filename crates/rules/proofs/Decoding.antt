@@ -164,7 +164,8 @@ module _ (s : List ℕ) (small : Bytes s) (c : Scope) (named : ℕ → Part) (na
   -- a part with a code that stands, over operands that fit and fine parts, is written as its bytes, and is fine
   abbrev Built : ℕ → Bool → ℕ → Part → Part → ℕ → Type 0
   Built d pred at l r code =
-      (write (built (head s at) named code l r) ≡ code ∷ (bytes s (at + 1) (operandsOf code) ++ partBytes (partsOf code) (write l) (write r)))
+      (write (built (head s at) named code l r)
+      ≡ code ∷ (bytes s (at + 1) (operandsOf code) ++ partBytes (partsOf code) (write l) (write r)))
       × Fine c named (suc d) pred (built (head s at) named code l r)
 
   value-small : (at : ℕ) → numberAt s at < 65536
@@ -349,7 +350,9 @@ module _ (s : List ℕ) where
 
     reads-none : (d : ℕ) (pred : Bool) (at code : ℕ) (bs rest : List ℕ) (p : Part) → partsOf code ≡ 0 → size p ≡ 1 + operandsOf code
         → HeadRead d pred at code bs rest
-        → built (head s at) named code (partAt s named d (at + 1 + operandsOf code)) (partAt s named d (after s d (at + 1 + operandsOf code))) ≡ p
+        → built (head s at) named code (partAt s named d (at + 1 + operandsOf code))
+        (partAt s named d (after s d (at + 1 + operandsOf code)))
+        ≡ p
         → Reads (suc d) pred at p rest
     reads-none d pred at code bs rest p z n a q =
         let e : at + 1 + operandsOf code ≡ at + size p = omega arith in
@@ -389,7 +392,8 @@ module _ (s : List ℕ) where
     unfolding Fine write built stands operandsWrong
     reads zero pred at p rest f e = absurd f
     reads (suc d) pred at Id rest f e = reads-none d pred at 0 [] rest Id refl refl (reads-head d pred at 0 [] rest e refl refl refl) refl
-    reads (suc d) pred at Drop rest f e = reads-none d pred at 1 [] rest Drop refl refl (reads-head d pred at 1 [] rest e refl refl refl) refl
+    reads (suc d) pred at Drop rest f e =
+        reads-none d pred at 1 [] rest Drop refl refl (reads-head d pred at 1 [] rest e refl refl refl) refl
     reads (suc d) pred at (Test i v) rest f e =
         let a = reads-head d pred at 2 (i ∷ v / 256 ∷ v % 256 ∷ []) rest e refl refl (rw (lt-ltb i (c .fields) (f .0))) in
         let w = value-of s at i v rest (a .4) in

@@ -101,7 +101,8 @@ unfolding has apart within less padded passes put mix orderOf insert union keep 
     write parts deep namesOpen tested written rightMasks fitMasks wrongs
     entries bytesOf contents bodies writeBook masksFit
     byteIf stands operandsWrong readOperands readPart readBody bodyStart readEntry readEntries masksRight
-    after built partAt bodyAt useAt mainOf tablesFrom policyOf wrongBody misfit wrongsIn misfitsIn typingFaults firstFailed formChecks bookChecks sizesOf verdict
+    after built partAt bodyAt useAt mainOf tablesFrom policyOf wrongBody misfit wrongsIn misfitsIn typingFaults
+    firstFailed formChecks bookChecks sizesOf verdict
     each out steps room own widest width
     join place enter finish leave next live move run counted made used lacking stuckSteps stuckIn
     refusalSays verdictSays evaluatedSays ranSays given outcome packetChecks evaluateChecks evaluated start runChecks ran

@@ -99,7 +99,8 @@ unfolding trials trial answered expected buffer
     write parts deep namesOpen tested written rightMasks fitMasks wrongs
     entries bytesOf masksFit
     byteIf stands operandsWrong readOperands readPart readBody bodyStart readEntry readEntries masksRight
-    after built partAt bodyAt useAt mainOf tablesFrom policyOf wrongBody misfit wrongsIn misfitsIn typingFaults firstFailed formChecks bookChecks sizesOf verdict
+    after built partAt bodyAt useAt mainOf tablesFrom policyOf wrongBody misfit wrongsIn misfitsIn typingFaults
+    firstFailed formChecks bookChecks sizesOf verdict
     each out steps room own widest width
     join place enter finish leave next live move run counted made used lacking stuckSteps stuckIn
     refusalSays evaluatedSays ranSays given outcome packetChecks evaluateChecks evaluated overwritten evaluatedResult start runChecks ran

@@ -48,7 +48,8 @@ fill-code : (s : List ℕ) (named : ℕ → Part) (at : ℕ) (l r : Part) (c : �
     → built (head s at) named c (filled named l) (filled named r) ≡ filled named (built (head s at) (shut s) c l r)
 unfolding built filled shut
 fill-code s named at l r =
-    by-code (λ c. built (head s at) named c (filled named l) (filled named r) ≡ filled named (built (head s at) (shut s) c l r)) refl refl refl refl refl
+    by-code (λ c. built (head s at) named c (filled named l) (filled named r) ≡ filled named (built (head s at) (shut s) c l r))
+    refl refl refl refl refl
     refl refl refl refl (λ c. refl)
 
 -- the decoder with the bodies is the decoder without them, filled

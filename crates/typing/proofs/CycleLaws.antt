@@ -77,7 +77,8 @@ module _ (s : List ℕ) (o n st z : ℕ) (m u : List ℕ) (v : Moved st n z) whe
 
 -- a part with no parts below it
 leaf-quiet : (s : List ℕ) (at place : ℕ) (l r : Part) (c : ℕ) → partsOf c ≡ 0
-    → (wrongs place (built (head s at) (shut s) c l r) ≡ []) × (deep (built (head s at) (shut s) c l r) ≡ 0) × (parts (built (head s at) (shut s) c l r) ≡ 1)
+    → (wrongs place (built (head s at) (shut s) c l r) ≡ []) × (deep (built (head s at) (shut s) c l r) ≡ 0)
+    × (parts (built (head s at) (shut s) c l r) ≡ 1)
     × (1 ≤ size (built (head s at) (shut s) c l r))
 unfolding built wrongs deep parts shut write
 leaf-quiet s at place l r =

@@ -20,7 +20,8 @@ use Rattle.rules.specs.Typing.{tested, written}
 use Rattle.rules.specs.Books.{mostBytes, mostTables, Scope}
 use Rattle.rules.specs.Reading.{readOperands, stands, readPart, head, headAt, partAt, built, fieldsOf, tablesOf, readsAt, writesAt}
 use Rattle.book.specs.Operands.{Within}
-use Rattle.rules.proofs.ReadingLaws.{head-is, operands-none, operands-were, use-known, part-wrong, byte-next, byte-wrong, then-next, stands-37, stands-8}
+use Rattle.rules.proofs.ReadingLaws.{head-is, operands-none, operands-were, use-known, part-wrong, byte-next, byte-wrong, then-next}
+use Rattle.rules.proofs.ReadingLaws.{stands-37, stands-8}
 use Rattle.rules.proofs.CodeLaws.{by-code}
 use Rattle.typing.proofs.TallyLaws.{use-few, use-room}
 use Rattle.typing.specs.declared.Walked.{Walked}

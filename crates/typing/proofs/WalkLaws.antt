@@ -26,7 +26,8 @@ pub deeper : (d : ℕ) → (d ≡ 0 → ⊥) → d ≡ suc (d - 1)
 deeper zero h = absurd (h refl)
 deeper (suc d) h = omega arith
 
-same-leaf : (s : List ℕ) (at : ℕ) (l r l′ r′ : Part) (c : ℕ) → partsOf c ≡ 0 → built (head s at) (shut s) c l r ≡ built (head s at) (shut s) c l′ r′
+same-leaf : (s : List ℕ) (at : ℕ) (l r l′ r′ : Part) (c : ℕ) → partsOf c ≡ 0
+    → built (head s at) (shut s) c l r ≡ built (head s at) (shut s) c l′ r′
 unfolding built
 same-leaf s at l r l′ r′ =
     by-code (λ c. partsOf c ≡ 0 → built (head s at) (shut s) c l r ≡ built (head s at) (shut s) c l′ r′) (λ e. refl) (λ e. refl) (λ e. refl)
@@ -122,7 +123,8 @@ module _ (s : List ℕ) (sound : Sound s) (way : ℕ) where
   unfolding readPart
   two-read d at code e n0 np n4 st h =
       let z : at + 1 + 0 ≡ at + 1 = omega arith in
-      rw (← byte-next s (stands (inMain way) (predOf way)) at h (rw e st), e, operands-none s (fieldsOf s) (tablesOf s) code at n0 h, np, n4, z)
+      let ops = operands-none s (fieldsOf s) (tablesOf s) code at n0 h in
+      rw (← byte-next s (stands (inMain way) (predOf way)) at h (rw e st), e, ops, np, n4, z)
       (then-same (readPart s (scopeAt s way) d (predOf way)) (readPart s (scopeAt s way) d (predOf way) (at + 1)))
 
   -- g is what the code builds of its two parts
@@ -198,7 +200,8 @@ module _ (s : List ℕ) (sound : Sound s) (way : ℕ) where
 
   beside-part-is : (d at : ℕ) → getD s at 0 ≡ 7
       → partAt s (shut s) (suc d) at
-      ≡ Beside (head s at .left) (head s at .right) (partAt s (shut s) d (at + 1 + operandsOf 7)) (partAt s (shut s) d (after s d (at + 1 + operandsOf 7)))
+      ≡ Beside (head s at .left) (head s at .right) (partAt s (shut s) d (at + 1 + operandsOf 7))
+      (partAt s (shut s) d (after s d (at + 1 + operandsOf 7)))
   unfolding partAt built
   beside-part-is d at e = rw e
 

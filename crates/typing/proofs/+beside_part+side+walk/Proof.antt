@@ -237,7 +237,8 @@ module _ (t : ℕ) where
       (at-bare .bare .ensures) (at-past .past .ensures) (at-mark-level .mark-level .ensures) _ _ _
       (told-of _ _ _ _ _ _ _ (at-unwire .unwire .ensures) (at-walk .walk .ensures)) _ (at-left .left .given .1) _
       (at-bare2 .bare2 .ensures) _ _ _ (told-of _ _ _ _ _ _ _ (at-unwire2 .unwire2 .ensures) (at-walk2 .walk2 .ensures)) _
-      (at-right .right .given .1) _ _ _ _ (at-head .head-at .ensures) (at-right-states .right-states .ensures) (c .before .mark-fault .ensures) (c .joined .ensures)
+      (at-right .right .given .1) _ _ _ _ (at-head .head-at .ensures) (at-right-states .right-states .ensures)
+      (c .before .mark-fault .ensures) (c .joined .ensures)
 
   abbrev side-calls : side-lts.Claims
   side-calls = (

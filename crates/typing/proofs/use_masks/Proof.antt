@@ -20,7 +20,8 @@ declared s x r w g er ew =
 cast-with-masks : tie.Need-cast-with-masks
 cast-with-masks c =
     let start = c .before .before .before in
-    omega (arith, declared (start .args .s .now) (start .args .x) _ _ (start .pre) (c .before .reads-of .ensures) (c .writes-of .ensures) .0)
+    let d = declared (start .args .s .now) (start .args .x) _ _ (start .pre) (c .before .reads-of .ensures) (c .writes-of .ensures) in
+    omega (arith, d .0)
 
 with-masks-requires : tie.Need-with-masks-requires
 with-masks-requires c κs =
@@ -31,7 +32,8 @@ with-masks-requires c κs =
 returns : tie.Need-returns
 returns c =
     let start = c .before .before .before .before in
-    masked-by (start .args .s .now) (start .args .x) _ _ _ _ (c .before .before .reads-of .ensures) (c .before .writes-of .ensures) (c .with-masks .ensures)
+    masked-by (start .args .s .now) (start .args .x) _ _ _ _ (c .before .before .reads-of .ensures) (c .before .writes-of .ensures)
+    (c .with-masks .ensures)
 
 pub use-masks-spec : {M : Type 1} → statement M
 use-masks-spec =

@@ -36,7 +36,8 @@ pub +add-digits-spec : {M : Type 1} → statement M
     (λ c κs. (omega arith, room-first _ _ (rw (digits-more _ _ (c .before .if1 .left) (c .if2 .left)) at (c .before .before .pre .1))))
     (λ c. search needs)
     (λ c. search needs)
-    (λ c κs. room-next _ _ (rw (digits-more _ _ (c .before .before .if1 .left) (c .before .if2 .left)) at (c .before .before .before .pre .1))
+    (λ c κs.
+    room-next _ _ (rw (digits-more _ _ (c .before .before .if1 .left) (c .before .if2 .left)) at (c .before .before .before .pre .1))
     (c .add-digits .ensures))
     (λ c. rw (digits-more _ _ (c .before .before .before .if1 .left) (c .before .before .if2 .left))
     (gains-both (c .before .add-digits .ensures) (c .add-byte2 .ensures)))
