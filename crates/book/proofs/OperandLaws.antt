@@ -1,5 +1,5 @@
 -- The head and the operands at a place, by what the code compares.
-use Prim.Native.Nat.{ℕ, suc, _+_, _<_, _≤_}
+use Prim.Native.Nat.{ℕ, suc, _+_, _*_, _<_, _≤_}
 use native.Mathlib.Omega.{arith}
 use mathlib.Core.Path.{_≡_, refl, sym, ap, _∙_}
 use mathlib.Core.Bool.{Bool, true, false, cond}
@@ -41,6 +41,22 @@ pub head-there : (s : List ℕ) (at f v r : ℕ) (x : Shape) → at < length s �
     }) (headAt s at)
 unfolding headAt
 head-there s at f v r x h ef ev er ex = rw (lt-ltb at (length s) h, ef, ev, er, ex)
+
+-- the same where four bytes are there
+pub head-whole : (s : List ℕ) (at v : ℕ) (x : Shape) → at < length s → v ≡ getD s (at + 2) 0 * 256 + getD s (at + 3) 0
+    → x ≡ shapeAt (getD s at 0)
+    → _≡_ {A = Head} (record {
+      code = getD s at 0;
+      field = getD s (at + 1) 0;
+      value = v;
+      left = getD s (at + 1) 0;
+      right = getD s (at + 2) 0;
+      table = getD s (at + 1) 0;
+      from = at + 1 + x .operands;
+    }) (headAt s at)
+head-whole s at v x h ev ex =
+    let e : at + 3 ≡ at + 2 + 1 = omega arith in
+    head-there s at _ v _ x h refl (ev ∙ rw e) refl ex
 
 pub number-none : (s : List ℕ) (at : ℕ) → length s ≤ at → numberAt s at ≡ 0
 number-none s at h =
@@ -86,13 +102,9 @@ module _ (s : List ℕ) (m at : ℕ) where
         let x : ℕ = getD s (at + 1) 0 in
         rw (some-there s 0 (at + 1) h, lt-ltb 0 x (omega arith), lt-leb x m e) (omega arith, omega arith)
 
--- what a test of a mask tells, over bytes that were read
-pub mask-told : (n m k b : ℕ) (t : Bool) {v : Bool} → k ≡ n → b ≡ m → t ≡ inFields k b → t ≡ v → inFields n m ≡ v
-mask-told n m k b t en em e h = rw (← en, ← em) (sym e ∙ h)
-
 -- a mask that is not there has no bit
 module _ (s : List ℕ) (k : ℕ) where
-  absent-small : (a : ℕ) → length s ≤ a → inFields k (getD s a 0) ≡ true
+  pub absent-small : (a : ℕ) → length s ≤ a → inFields k (getD s a 0) ≡ true
   absent-small a h = rw (List·getD-eq-default s 0 h) (lt-ltb 0 _ (pow-pos k))
 
   wide-there : (a : ℕ) → inFields k (getD s a 0) ≡ false → a < length s

@@ -20,14 +20,40 @@ pub fn byte_at(s: &[u8], at: usize) -> u8
     if at < s.len() { s[at] } else { 0 }
 }
 
-// The two-byte number at a place, high byte first; 0 past the end.
+// The number in two bytes, high byte first.
+fn number_of(high: u8, low: u8) -> u16
+    ensures { λ r. ⌜ r ≡ high * 256 + low ⌝ }
+{
+    high as u16 * 256 + low as u16
+}
+
+// The two-byte number at a place; 0 past the end.
 pub fn number_at(s: &[u8], at: usize) -> u16
     ensures { λ r. ⌜ r ≡ numberAt (now (s .entry)) at ⌝ }
 {
     if at < s.len() {
-        byte_at(s, at) as u16 * 256 + byte_at(s, at + 1) as u16
+        number_of(s[at], byte_at(s, at + 1))
     } else {
         0
+    }
+}
+
+// The head of the part at a place, less than four bytes from the end.
+fn cut_head(s: &[u8], at: usize) -> Head
+    requires { ⌜ at < length (now s) ⌝ }
+    ensures { λ r. ⌜ r ≡ headAt (now (s .entry)) at ⌝ }
+{
+    let code = s[at];
+    let first = byte_at(s, at + 1);
+    let shape = rules::shape_of(code);
+    Head {
+        code,
+        field: first,
+        value: number_at(s, at + 2),
+        left: first,
+        right: byte_at(s, at + 2),
+        table: first,
+        from: at + 1 + shape.operands,
     }
 }
 
@@ -46,15 +72,19 @@ pub fn head_at(s: &[u8], at: usize) -> Head
             from: at,
         };
     }
+    if s.len() - at < 4 {
+        return cut_head(s, at);
+    }
     let code = s[at];
-    let first = byte_at(s, at + 1);
+    let first = s[at + 1];
+    let second = s[at + 2];
     let shape = rules::shape_of(code);
     Head {
         code,
         field: first,
-        value: number_at(s, at + 2),
+        value: number_of(second, s[at + 3]),
         left: first,
-        right: byte_at(s, at + 2),
+        right: second,
         table: first,
         from: at + 1 + shape.operands,
     }
@@ -70,19 +100,25 @@ fn field_wrong(s: &[u8], at: usize) -> usize
     if s.len() <= at + 1 {
         return 0;
     }
-    if s[at + 1] < byte_at(s, 0) { 0 } else { at + 1 }
+    if s[at + 1] < s[0] { 0 } else { at + 1 }
 }
 
-// A mask with a bit at k or above; a byte that is not there has none.
+// A mask with a bit at k or above.
 fn masks_wrong(s: &[u8], at: usize) -> usize
     requires { ⌜ at < length (now s) ⌝ }
     ensures { λ r. ⌜ WrongPlace (now (s .entry)) at (masksWrong (fieldsOf (now (s .entry))) (operandsAt (now (s .entry)) 7 at)) r ⌝ }
 {
-    let k = byte_at(s, 0);
-    if !small_mask(byte_at(s, at + 1), k) {
+    let left = s.len() - at;
+    if left < 2 {
+        return 0;
+    }
+    if !small_mask(s[at + 1], s[0]) {
         return at + 1;
     }
-    if small_mask(byte_at(s, at + 2), k) {
+    if left < 3 {
+        return 0;
+    }
+    if small_mask(s[at + 2], s[0]) {
         0
     } else {
         at + 2
@@ -101,7 +137,7 @@ fn table_wrong(s: &[u8], at: usize) -> usize
     if x == 0 {
         return at + 1;
     }
-    if x <= byte_at(s, 1) { 0 } else { at + 1 }
+    if x <= s[1] { 0 } else { at + 1 }
 }
 
 fn operand_wrong(s: &[u8], code: u8, at: usize) -> usize

@@ -1,5 +1,4 @@
 -- `field_wrong` meets its contract: one law for each answer. Assumes nothing.
-use native.Mathlib.Omega.{arith}
 use Rattle.book.proofs.OperandLaws.{field-absent, field-right, field-over}
 use borrow.Author.Needs.{needs}
 use Rattle.book.proofs.field_wrong.Statement.{statement}
@@ -11,11 +10,11 @@ returns c =
 
 returns-2 : tie.Need-returns-2
 returns-2 c =
-    field-right _ _ _ (c .before .before .before .if1 .left) (omega (arith, c .if2 .taken, c .before .byte-at .ensures))
+    field-right _ _ _ (c .before .before .before .if1 .left) (c .if2 .taken)
 
 returns-3 : tie.Need-returns-3
 returns-3 c =
-    field-over _ _ _ (c .before .before .before .if1 .left) (omega (arith, c .if2 .left, c .before .byte-at .ensures))
+    field-over _ _ _ (c .before .before .before .if1 .left) (c .if2 .left)
 
 pub field-wrong-spec : {M : Type 1} → statement M
 field-wrong-spec =
@@ -25,7 +24,7 @@ field-wrong-spec =
     returns
     (λ c. search needs)
     (λ c. search needs)
-    (λ c κs. search needs)
+    (λ c. search needs)
     (λ c. search needs)
     returns-2
     returns-3)

@@ -1,5 +1,4 @@
 -- `table_wrong` meets its contract: one law for each answer. Assumes nothing.
-use native.Mathlib.Omega.{arith}
 use Rattle.book.proofs.OperandLaws.{table-absent, table-zero, table-right, table-over}
 use borrow.Author.Needs.{needs}
 use Rattle.book.proofs.table_wrong.Statement.{statement}
@@ -15,13 +14,13 @@ returns-2 c =
 
 returns-3 : tie.Need-returns-3
 returns-3 c =
-    table-right _ _ _ (c .before .before .before .before .if1 .left) (c .before .before .if2 .left)
-    (omega (arith, c .if3 .taken, c .before .byte-at .ensures))
+    let at-if2 = c .before .before in
+    table-right _ _ _ (at-if2 .before .before .if1 .left) (at-if2 .if2 .left) (c .if3 .taken)
 
 returns-4 : tie.Need-returns-4
 returns-4 c =
-    table-over _ _ _ (c .before .before .before .before .if1 .left) (c .before .before .if2 .left)
-    (omega (arith, c .if3 .left, c .before .byte-at .ensures))
+    let at-if2 = c .before .before in
+    table-over _ _ _ (at-if2 .before .before .if1 .left) (at-if2 .if2 .left) (c .if3 .left)
 
 pub table-wrong-spec : {M : Type 1} → statement M
 table-wrong-spec =
@@ -33,7 +32,7 @@ table-wrong-spec =
     (λ c. search needs)
     (λ c. search needs)
     returns-2
-    (λ c κs. search needs)
+    (λ c. search needs)
     (λ c. search needs)
     returns-3
     returns-4)
