@@ -1,9 +1,8 @@
--- The laws of arrays of packets that the proofs of the functions cite, and those that the layers above use.
+-- Laws of arrays of sixteen rows, over any width.
 pub mod Chunks
-pub mod Fillings
-pub mod Clearing
-pub mod Padding
-pub mod Mixing
 pub mod Comparing
-pub mod Emitting
+pub mod Clearing
+pub mod Holding
+pub mod Mixing
+pub mod Padding
 pub mod Words

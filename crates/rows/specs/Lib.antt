@@ -1,4 +1,3 @@
--- What the contracts on arrays of packets say: the packets of an array, and what is done to it.
+-- What the contracts on arrays of sixteen rows say, for rows of any width from 8 to 16.
 pub mod Chunks
 pub mod Arrays
-pub mod Areas

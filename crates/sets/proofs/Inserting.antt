@@ -1,20 +1,24 @@
--- A packet put into an array of ascending packets: where it goes, the packets after it moved up, and a loop that gathers packets so.
-use Prim.Native.Nat.{ℕ, zero, suc, _+_, _*_, _-_, _≤_, _<_}
-use mathlib.Core.Path.{_≡_, refl, sym, ap, _∙_}
-use mathlib.Core.List.{List, [], _∷_, _++_, map, append-assoc}
+-- A packet put into an array of ascending packets: where it goes, the rows after it moved up, and loops that gather packets so.
+use Prim.Native.Nat.{ℕ, zero, suc, _+_, _-_, _≤_, _<_}
+use mathlib.Core.Path.{_≡_, refl, sym, ap, ap₂, _∙_}
+use mathlib.Core.List.{List, [], _∷_, _++_, map, map-append, append-assoc}
 use native.Mathlib.Omega.{arith}
-use lib.ListN.{length, take, drop, getD, replicate, length-append, length-drop, take-append-drop}
-use lib.Seq.{drop-cons, take-add, take-at, drop-at, drop-drop, take-take, length-take-le}
+use native.Mathlib.Numerals.{add-one}
+use native.Mathlib.Decide.{decLt}
+use lib.ListN.{length, take, drop, getD, set, replicate, length-append, length-take, take-append-drop}
+use lib.Seq.{slice, length-slice, drop-cons, take-at, drop-at, drop-drop, take-take, take-suc, take-set-le, getD-take, getD-drop}
+use lib.Seq.{set-out}
 use Rattle.rules.specs.declared.Order.the-variants.{Less, Same, More}
-use Rattle.rules.specs.Packets.{Packet, Packets, orderOf, Before, AllAfter, Ascending, insert, union, gathered}
-use Rattle.rules.proofs.Orders.{order-refl, order-same, order-turned, before-trans}
-use Rattle.rules.proofs.Sets.{insert-ascending, length-union-le, length-union-more}
-use Rattle.rows.specs.Chunks.{chunks, rowAt, Packed, Held}
-use Rattle.rows.specs.Arrays.{putRow}
+use Rattle.rules.specs.Packets.{Packet, Packets, orderOf, Before, AllAfter, Ascending, put, insert, union, gathered}
+use Rattle.rules.proofs.Orders.{order-refl, order-same, order-turned, before-trans, after-trans}
+use Rattle.rules.proofs.Sets.{insert-ascending, length-insert-le, length-insert-more, length-union-le, gathered-same}
+use Rattle.rows.specs.Chunks.{rowsOf, blank, Array, Packed, Held, Stored, Cleared}
+use Rattle.rows.proofs.Chunks.{length-rows, length-row, drop-replicate}
+use Rattle.rows.proofs.Clearing.{trimmed}
+use Rattle.rows.proofs.Holding.{length-packets, held-self, held-as}
 use Rattle.sets.specs.declared.Place.the-variants.{At, There}
-use Rattle.sets.specs.Inserts.{Placed, Shifted, Inserted}
-use Rattle.rows.proofs.Chunks.{chunks-add, chunks-append, chunks-front, getD-chunks, rows-at, rows-done}
-use Rattle.rows.proofs.Chunks.{length-chunks, length-put, length-row, drop-replicate}
+use Rattle.sets.specs.Lists.{Placed, Shifted, Inserted, Changed, Zeroed}
+use Rattle.sets.proofs.Rows.{set-take, set-drop, set-from, slice-at, slice-end}
 
 -- ---- where a packet goes in an ascending list
 
@@ -47,213 +51,287 @@ insert-before : (p : Packet) (s : Packets) (i : ℕ) → i < length s → orderO
 unfolding insert
 insert-before p s i h e = rw (drop-cons s i [], insert, e)
 
--- what the packet before place i says of where p goes, if p goes before all from place i on
-module _ (w p : List ℕ) (k i : ℕ) (q : Packed w k) (h : 0 < i) (l : i ≤ k) where
-  in-rows : i - 1 < length (chunks k w)
-  in-rows = rw length-chunks (omega arith)
+-- what row i - 1 says of where p goes among the first k, if p goes before all from place i on
+module _ (R : Packets) (p : Packet) (k i : ℕ) (hk : k ≤ length R) (q : Ascending (take k R)) (h : 0 < i) (l : i ≤ k) where
+  in-rows : i - 1 < length (take k R)
+  in-rows = simp length-take (omega arith)
 
-  row-before : getD (chunks k w) (i - 1) [] ≡ rowAt w (i - 1)
-  row-before = getD-chunks k (i - 1) w [] (omega arith)
+  row-before : getD (take k R) (i - 1) [] ≡ getD R (i - 1) []
+  row-before = getD-take k R (i - 1) [] (omega arith)
 
-  pub placed-here : orderOf p (rowAt w (i - 1)) ≡ More → insert p (drop i (chunks k w)) ≡ p ∷ drop i (chunks k w)
-      → Placed p (chunks k w) (At i)
+  pub placed-here : orderOf p (getD R (i - 1) []) ≡ More → insert p (drop i (take k R)) ≡ p ∷ drop i (take k R) → Placed p (take k R) (At i)
   placed-here e f =
       let d : suc (i - 1) ≡ i = omega arith in
-      let z = insert-past p (chunks k w) (i - 1) (q .order) in-rows (rw row-before e) in
-      (rw length-chunks l, rw (d, f) at z)
+      let z = insert-past p (take k R) (i - 1) q in-rows (rw row-before e) in
+      (simp length-take (omega arith), rw (d, f) at z)
 
-  pub placed-there : orderOf p (rowAt w (i - 1)) ≡ Same → Placed p (chunks k w) There
-  placed-there e = insert-there p (chunks k w) (i - 1) (q .order) in-rows (rw row-before (order-same _ _ e))
+  pub placed-there : orderOf p (getD R (i - 1) []) ≡ Same → Placed p (take k R) There
+  placed-there e = insert-there p (take k R) (i - 1) q in-rows (rw row-before (order-same _ _ e))
 
-  pub placed-on : orderOf p (rowAt w (i - 1)) ≡ Less → insert p (drop (i - 1) (chunks k w)) ≡ p ∷ drop (i - 1) (chunks k w)
-  placed-on e = insert-before p (chunks k w) (i - 1) in-rows (rw row-before e)
+  pub placed-on : orderOf p (getD R (i - 1) []) ≡ Less → insert p (drop (i - 1) (take k R)) ≡ p ∷ drop (i - 1) (take k R)
+  placed-on e = insert-before p (take k R) (i - 1) in-rows (rw row-before e)
 
-pub placed-start : (w p : List ℕ) (k : ℕ) → insert p (drop k (chunks k w)) ≡ p ∷ drop k (chunks k w)
+pub placed-start : (R : Packets) (p : Packet) (k : ℕ) → insert p (drop k (take k R)) ≡ p ∷ drop k (take k R)
 unfolding insert
-placed-start w p k = let h : k ≤ k = omega arith in rw (rows-done k w k h)
+placed-start R p k = rw (slice-end R k k (omega arith))
 
 pub placed-first : (p : Packet) (s : Packets) (i : ℕ) → i ≡ 0 → insert p (drop i s) ≡ p ∷ drop i s → Placed p s (At 0)
 placed-first p s i e f = (omega arith, rw e at f)
 
--- ---- packets moved up one by one, from the last on
+-- ---- rows moved up one by one, from the last on
 
-row-of-take : (w : List ℕ) (b : ℕ) → b * 8 + 8 ≤ length w → rowAt w b ≡ drop (b * 8) (take (b * 8 + 8) w)
-row-of-take w b h =
-    sym (rw take-add (drop-at (take (b * 8) w) (rowAt w b) (b * 8) (length-take-le (b * 8) w (omega arith))))
+pub shifted-start : {r : ℕ} {w : List ℕ} (k : ℕ) → Array r w → Shifted r w w k k
+shifted-start {r} {w} k a = record { array = a; low = refl; high = rw (slice-end (rowsOf r w) k k (omega arith)) }
 
-lower : (w w₀ : List ℕ) (j : ℕ) → take (j * 8 + 8) w ≡ take (j * 8 + 8) w₀ → take (j * 8) w ≡ take (j * 8) w₀
-lower w w₀ j e =
-    let h : j * 8 ≤ j * 8 + 8 = omega arith in
-    sym (take-take (j * 8) (j * 8 + 8) w h) ∙ ap (λ (l : List ℕ). take (j * 8) l) e ∙ take-take (j * 8) (j * 8 + 8) w₀ h
-
-pub shifted-start : (w : List ℕ) (k : ℕ) → length w ≡ 128 → Shifted w w k k
-shifted-start w k e = let z : (k - k) * 8 ≡ 0 = omega arith in record { size = e; low = refl; high = rw z }
-
-pub shifted-next : (w w₀ : List ℕ) (j b k : ℕ) → j ≡ b + 1 → j ≤ k → k < 16 → length w₀ ≡ 128 → Shifted w w₀ j k
-    → Shifted (putRow w j (rowAt w b)) w₀ b k
-shifted-next w w₀ j b k e h f l₀ a =
-    let d : b * 8 + 8 ≡ j * 8 = omega arith in
-    let lo = lower w w₀ j (a .low) in
-    let z = rowAt w b ++ drop (j * 8 + 8) w in
-    let front : length (take (j * 8) w) ≡ j * 8 = length-take-le (j * 8) w (omega (arith, a .size)) in
-    let r : rowAt w b ≡ rowAt w₀ b =
-    row-of-take w b (omega (arith, a .size)) ∙ rw (d, lo) (rw (← d) (sym (row-of-take w₀ b (omega arith)))) in
-    let m : (k - b) * 8 ≡ 8 + (k - j) * 8 = omega arith in
+pub shifted-next : {r : ℕ} {w′ w w₀ : List ℕ} (j b k : ℕ) → j ≡ b + 1 → j ≤ k → k < 16 → Shifted r w w₀ j k
+    → Stored r w′ w j (getD (rowsOf r w) b []) → Shifted r w′ w₀ b k
+shifted-next {r} {w′} {w} {w₀} j b k e h f a s =
+    let R = rowsOf r w in
+    let R₀ = rowsOf r w₀ in
+    let d : b + 1 ≤ j + 1 = omega arith in
+    let low : take (b + 1) R ≡ take (b + 1) R₀ =
+    sym (take-take (b + 1) (j + 1) R d) ∙ ap (λ (z : Packets). take (b + 1) z) (a .low) ∙ take-take (b + 1) (j + 1) R₀ d in
+    let x : getD R b [] ≡ getD R₀ b [] =
+    sym (getD-take (b + 1) R b [] (omega arith)) ∙ ap (λ (z : Packets). getD z b []) low ∙ getD-take (b + 1) R₀ b [] (omega arith) in
     record {
-      size = length-put j w (rowAt w b) (omega (arith, a .size)) (length-row w b (a .size) (omega arith)) ∙ a .size;
-      low = rw (d, take-at (take (j * 8) w) z (j * 8) front) lo;
+      array = s .array;
+      low = rw (s .rows) (take-set-le (b + 1) R j (getD R b []) (omega arith) ∙ low);
       high =
-          rw (d, drop-at (take (j * 8) w) z (j * 8) front, a .high, r, m, take-add 8 ((k - j) * 8) (drop (b * 8) w₀))
-          (rw (drop-drop 8 (b * 8) w₀, d)
-          (sym (append-assoc (rowAt w₀ b) (take ((k - j) * 8) (drop (j * 8) w₀)) (drop (k * 8 + 8) w₀))));
+          rw (
+            s .rows,
+            ← e,
+            set-from R j (getD R b []) (omega (arith, length-rows r w)),
+            a .high,
+            x,
+            slice-at R₀ b k (omega arith) (omega (arith, length-rows r w₀)),
+            ← e,
+          );
     }
 
 -- ---- a packet put in the gap
 
-chunks-gap : (i m : ℕ) (a p t z : List ℕ) → length a ≡ i * 8 → length p ≡ 8 → length t ≡ m * 8
-    → chunks (i + suc m) (a ++ (p ++ (t ++ z))) ≡ chunks i a ++ p ∷ chunks m t
-unfolding chunks
-chunks-gap i m a p t z ea ep et =
-    let ha : i * 8 ≤ length a = omega arith in
-    let ht : m * 8 ≤ length t = omega arith in
-    chunks-add i (suc m) (a ++ (p ++ (t ++ z)))
-    ∙ rw (
-      chunks-append i a (p ++ (t ++ z)),
-      drop-at a (p ++ (t ++ z)) (i * 8) ea,
-      take-at p (t ++ z) 8 ep,
-      drop-at p (t ++ z) 8 ep,
-      chunks-append m t z,
-    )
+module _ {r : ℕ} {w′ w w₀ : List ℕ} (p : Packet) (i k : ℕ) (h : i ≤ k) (f : k < 16) (a : Shifted r w w₀ i k) (s : Stored r w′ w i p) where
+  abbrev front : Packets
+  front = take i (take k (rowsOf r w₀)) ++ p ∷ slice i k (rowsOf r w₀)
 
--- the zeros after the packet that was put in
-zeros-gap : (k : ℕ) (l z : List ℕ) → k < 16 → length l ≡ (k + 1) * 8 → z ≡ replicate (128 - (k + 1) * 8) 0
-    → drop ((k + 1) * 8) (l ++ z) ≡ replicate (128 - (k + 1) * 8) 0
-zeros-gap k l z h e f = drop-at l z ((k + 1) * 8) e ∙ f
+  length-front : length front ≡ k + 1
+  length-front =
+      let n = length-rows r w₀ in
+      let m = length-slice i k (rowsOf r w₀) (omega arith) in
+      simp (length-append, length-take) (omega arith)
 
-module _ (w₀ p : List ℕ) (i k : ℕ) (h : i ≤ k) (f : k < 16) (q : Packed w₀ k) (e : length p ≡ 8) where
-  -- the packets before place i, those from it on, and what is after the last
-  abbrev lo : List ℕ
-  lo = take (i * 8) w₀
+  gap : rowsOf r w′ ≡ front ++ drop (k + 1) (rowsOf r w₀)
+  gap =
+      let R = rowsOf r w in
+      let R₀ = rowsOf r w₀ in
+      let d : i ≤ i + 1 = omega arith in
+      let lo : take i (set R i p) ≡ take i (take k R₀) =
+      take-set-le i R i p (omega arith) ∙ sym (take-take i (i + 1) R d) ∙ ap (λ (z : Packets). take i z) (a .low)
+      ∙ take-take i (i + 1) R₀ d ∙ sym (take-take i k R₀ h) in
+      let hi : drop i (set R i p) ≡ p ∷ (slice i k R₀ ++ drop (k + 1) R₀) = rw (set-from R i p (omega (arith, length-rows r w)), a .high) in
+      s .rows ∙ sym (take-append-drop i (set R i p)) ∙ ap₂ (λ (x y : Packets). x ++ y) lo hi
+      ∙ sym (append-assoc (take i (take k R₀)) (p ∷ slice i k R₀) (drop (k + 1) R₀))
 
-  abbrev hi : List ℕ
-  hi = take ((k - i) * 8) (drop (i * 8) w₀)
-
-  abbrev off : List ℕ
-  off = drop (k * 8 + 8) w₀
-
-  length-lo : length lo ≡ i * 8
-  length-lo = length-take-le (i * 8) w₀ (omega (arith, q .size))
-
-  fits-hi : (k - i) * 8 ≤ length (drop (i * 8) w₀)
-  fits-hi = simp length-drop (omega (arith, q .size))
-
-  length-hi : length hi ≡ (k - i) * 8
-  length-hi = length-take-le ((k - i) * 8) (drop (i * 8) w₀) fits-hi
-
-  gap-rows : chunks (k + 1) (lo ++ (p ++ (hi ++ off))) ≡ take i (chunks k w₀) ++ p ∷ drop i (chunks k w₀)
-  gap-rows =
-      let d : k + 1 ≡ i + suc (k - i) = omega arith in
-      let b : k ≡ i + (k - i) = omega arith in
-      let g : chunks k w₀ ≡ chunks i w₀ ++ chunks (k - i) (drop (i * 8) w₀) = ap (λ (n : ℕ). chunks n w₀) b ∙ chunks-add i (k - i) w₀ in
-      let t = take-at (chunks i w₀) (chunks (k - i) (drop (i * 8) w₀)) i (length-chunks i w₀) in
-      let u = drop-at (chunks i w₀) (chunks (k - i) (drop (i * 8) w₀)) i (length-chunks i w₀) in
-      let x = chunks-front i w₀ (omega (arith, q .size)) in
-      let y = chunks-front (k - i) (drop (i * 8) w₀) fits-hi in
-      rw (g, t, u, d, x, y) (chunks-gap i (k - i) lo p hi off length-lo e length-hi)
-
-  gap-zeros : drop ((k + 1) * 8) (lo ++ (p ++ (hi ++ off))) ≡ replicate (128 - (k + 1) * 8) 0
-  gap-zeros =
-      let l : length (lo ++ (p ++ hi)) ≡ (k + 1) * 8 = simp length-append (omega (arith, length-lo, length-hi)) in
-      let m : 128 - k * 8 ≡ 8 + (128 - (k + 1) * 8) = omega arith in
-      let z : off ≡ replicate (128 - (k + 1) * 8) 0 = rw (← drop-drop 8 (k * 8) w₀, q .zeros, m) (drop-replicate 8 (128 - (k + 1) * 8)) in
-      let g : lo ++ (p ++ (hi ++ off)) ≡ (lo ++ (p ++ hi)) ++ off = rw (append-assoc lo (p ++ hi) off, append-assoc p hi off) in
-      rw g (zeros-gap k (lo ++ (p ++ hi)) off f l z)
-
-  pub inserted : (w : List ℕ) → Shifted w w₀ i k → insert p (chunks k w₀) ≡ take i (chunks k w₀) ++ p ∷ drop i (chunks k w₀)
-      → Inserted (putRow w i p) w₀ k p (k + 1)
-  inserted w s c =
-      let r : chunks (k + 1) (putRow w i p) ≡ insert p (chunks k w₀) = rw (lower w w₀ i (s .low), s .high) (gap-rows ∙ sym c) in
-      let l = length-put i w p (omega (arith, s .size)) e ∙ s .size in
-      let z : drop ((k + 1) * 8) (putRow w i p) ≡ replicate (128 - (k + 1) * 8) 0 = rw (lower w w₀ i (s .low), s .high) gap-zeros in
+  pub inserted : insert p (take k (rowsOf r w₀)) ≡ take i (take k (rowsOf r w₀)) ++ p ∷ drop i (take k (rowsOf r w₀))
+      → Inserted r w′ w₀ k p (k + 1)
+  inserted c =
+      let t : take (k + 1) (rowsOf r w′) ≡ insert p (take k (rowsOf r w₀)) =
+      rw (gap, take-at front (drop (k + 1) (rowsOf r w₀)) (k + 1) length-front) (sym c) in
       record {
-        count = sym (length-chunks (k + 1) (putRow w i p)) ∙ ap length r;
-        made = λ _. (record { size = l; room = omega arith; zeros = z; order = rw r (insert-ascending p (chunks k w₀) (q .order)) }, r);
+        array = s .array;
+        count = sym length-front ∙ ap length (sym c);
+        made = λ _. t;
+        rest = λ _. rw (gap, drop-at front (drop (k + 1) (rowsOf r w₀)) (k + 1) length-front);
+        there = λ o. absurd (omega arith);
         kept = λ o. absurd (omega arith);
       }
 
-pub inserted-there : (w₀ p : List ℕ) (k : ℕ) → Packed w₀ k → insert p (chunks k w₀) ≡ chunks k w₀ → Inserted w₀ w₀ k p k
-inserted-there w₀ p k q e =
-    record { count = sym (length-chunks k w₀) ∙ ap length (sym e); made = λ _. (q, sym e); kept = λ o. refl }
+pub inserted-there : {r : ℕ} {w₀ : List ℕ} (p : Packet) (k : ℕ) → k ≤ 16 → Array r w₀
+    → insert p (take k (rowsOf r w₀)) ≡ take k (rowsOf r w₀)
+    → Inserted r w₀ w₀ k p k
+inserted-there {r} {w₀} p k h a e = record {
+  array = a;
+  count = sym (length-packets r w₀ k h) ∙ ap length (sym e);
+  made = λ _. sym e;
+  rest = λ _. refl;
+  there = λ _. refl;
+  kept = λ _. refl;
+}
 
 -- one too many
-pub inserted-not : (w₀ p : List ℕ) (i k : ℕ) → k ≡ 16 → insert p (chunks k w₀) ≡ take i (chunks k w₀) ++ p ∷ drop i (chunks k w₀)
-    → Inserted w₀ w₀ k p 17
-inserted-not w₀ p i k h e =
-    let s = chunks k w₀ in
+pub inserted-not : {r : ℕ} {w₀ : List ℕ} (p : Packet) (i k : ℕ) → k ≡ 16 → Array r w₀
+    → insert p (take k (rowsOf r w₀)) ≡ take i (take k (rowsOf r w₀)) ++ p ∷ drop i (take k (rowsOf r w₀)) → Inserted r w₀ w₀ k p 17
+inserted-not {r} {w₀} p i k h a e =
+    let s = take k (rowsOf r w₀) in
     let n : length (take i s) + length (drop i s) ≡ length s =
     sym (length-append (take i s) (drop i s)) ∙ ap length (take-append-drop i s) in
     let m : length (insert p s) ≡ length (take i s) + suc (length (drop i s)) = ap length e ∙ length-append (take i s) (p ∷ drop i s) in
-    record { count = omega (arith, length-chunks k w₀); made = λ o. absurd (omega arith); kept = λ o. refl }
+    record {
+      array = a;
+      count = omega (arith, length-packets r w₀ k (omega arith));
+      made = λ o. absurd (omega arith);
+      rest = λ o. absurd (omega arith);
+      there = λ o. absurd (omega arith);
+      kept = λ _. refl;
+    }
 
--- ---- a loop that gathers packets, each put in its place
+-- ---- rows put in their places where they stand
 
--- the first k packets of w, with those that are left, make the whole
-pub record Gathering (w : List ℕ) (k : ℕ) (left whole : Packets) : Type 0 where
-  pub packed : Packed w k
-  pub same : union (chunks k w) left ≡ whole
+-- the first k rows of w ascend, and with rows j to n - 1 of x make the whole; from row j on w is still x
+pub record Sorting (r : ℕ) (w x : List ℕ) (j n k : ℕ) (whole : Packets) : Type 0 where
+  pub array : Array r w
+  pub below : k ≤ j
+  pub order : Ascending (take k (rowsOf r w))
+  pub tail : drop j (rowsOf r w) ≡ drop j (rowsOf r x)
+  pub same : union (take k (rowsOf r w)) (slice j n (rowsOf r x)) ≡ whole
 
-pub gathering-start : {v : List ℕ} (left : Packets) → Held v 0 [] → Gathering v 0 left (gathered left)
-unfolding chunks
-gathering-start left k = record { packed = k .packed; same = refl }
+pub sorting-start : {r : ℕ} {v : List ℕ} (n : ℕ) → Array r v → Sorting r v v 0 n 0 (gathered (take n (rowsOf r v)))
+sorting-start n a = record { array = a; below = omega arith; order = tt; tail = refl; same = refl }
 
-module _ {w w′ p : List ℕ} {k r : ℕ} {left whole : Packets} (a : Gathering w k (p ∷ left) whole) (i : Inserted w′ w k p r) where
-  pub gathering-next : r ≤ 16 → Gathering w′ r left whole
+row-kept : (R X : Packets) (j : ℕ) → drop j R ≡ drop j X → getD R j [] ≡ getD X j []
+row-kept R X j e =
+    let z : j + 0 ≡ j = omega arith in
+    let f = sym (getD-drop j R 0 []) ∙ ap (λ (l : Packets). getD l 0 []) e ∙ getD-drop j X 0 [] in
+    rw z at f
+
+module _ {r : ℕ} {w x : List ℕ} {k : ℕ} {whole : Packets} (j n : ℕ) (a : Sorting r w x j n k whole) where
+  pub sorting-next : {w′ p : List ℕ} (c : ℕ) → j < n → n ≤ 16 → p ≡ getD (rowsOf r w) j [] → Inserted r w′ w k p c
+      → Sorting r w′ x (j + 1) n c whole
   unfolding union
-  gathering-next h = let m = i .made h in record { packed = m .0; same = rw (m .1) (a .same) }
+  sorting-next {w′} {p} c h l e i =
+      let S = take k (rowsOf r w) in
+      let few : c ≤ k + 1 = omega (arith, i .count, length-insert-more p S, length-packets r w k (omega (arith, a .below))) in
+      let b : k ≤ j = a .below in
+      let m : c ≤ 16 = omega arith in
+      let y : p ≡ getD (rowsOf r x) j [] = e ∙ row-kept (rowsOf r w) (rowsOf r x) j (a .tail) in
+      let d : j + 1 ≡ k + 1 + (j - k) = omega arith in
+      let t : drop (j + 1) (rowsOf r w′) ≡ drop (j + 1) (rowsOf r w) =
+      rw (d, ← drop-drop (j - k) (k + 1) (rowsOf r w′), i .rest m) (drop-drop (j - k) (k + 1) (rowsOf r w)) in
+      record {
+        array = i .array;
+        below = omega arith;
+        order = rw (i .made m) (insert-ascending p S (a .order));
+        tail = t ∙ rw (← drop-drop 1 j (rowsOf r w), ← drop-drop 1 j (rowsOf r x), a .tail);
+        same = rw (i .made m, y) (rw (slice-at (rowsOf r x) j n h (omega (arith, length-rows r x))) at (a .same));
+      }
 
-  pub gathering-count : r ≤ length whole
+  pub sorting-end : {w′ : List ℕ} → j ≡ n → Zeroed r x n → Cleared r w′ w k n → Held r w′ k whole
   unfolding union
-  gathering-count = omega (arith, i .count, ap length (a .same), length-union-le (insert p (chunks k w)) left)
+  sorting-end {w′} e z c =
+      let s : take k (rowsOf r w) ≡ whole = rw (slice-end (rowsOf r x) j n (omega arith)) at (a .same) in
+      trimmed c (omega (arith, a .below)) (z .room) (rw e at (a .tail) ∙ z .zeros) s (rw s at (a .order))
 
-pub gathering-end : {w : List ℕ} {k : ℕ} {whole : Packets} → Gathering w k [] whole → Held w k whole
-unfolding union
-gathering-end a = record { packed = a .packed; same = a .same }
+-- ---- packets put one by one among those of an array
 
-length-map : (g : Packet → Packet) (s : Packets) → length (map g s) ≡ length s
-length-map g [] = refl
-length-map g (x ∷ s) = ap suc (length-map g s)
+-- the packets of w, with those that are left, make the whole
+pub record Gathering (r : ℕ) (w : List ℕ) (k : ℕ) (left whole : Packets) : Type 0 where
+  pub packed : Packed r w k
+  pub same : union (take k (rowsOf r w)) left ≡ whole
 
--- what becomes equal is one: they are no more
-pub gathered-few : (g : Packet → Packet) (s : Packets) → length (gathered (map g s)) ≤ length s
-gathered-few g s = omega (arith, length-union-more [] (map g s), length-map g s)
+pub inserted-packed : {r : ℕ} {w w₀ : List ℕ} {p : Packet} {k n : ℕ} → Packed r w₀ k → Inserted r w w₀ k p n → n ≤ 16 → Packed r w n
+inserted-packed {r} {w} {w₀} {p} {k} {n} q i h =
+    let S = take k (rowsOf r w₀) in
+    let l = length-packets r w₀ k (q .room) in
+    let more : n ≤ k + 1 = omega (arith, i .count, length-insert-more p S) in
+    let less : k ≤ n = omega (arith, i .count, length-insert-le p S) in
+    let asc : Ascending (take n (rowsOf r w)) = rw (i .made h) (insert-ascending p S (q .order)) in
+    elim (decLt k n) [
+      | yes o ↦
+          let e : n ≡ k + 1 = omega arith in
+          let m : 16 - k ≡ 1 + (16 - n) = omega arith in
+          let g : drop k (rowsOf r w₀) ≡ replicate (1 + (16 - n)) (blank r) = q .zeros ∙ rw m in
+          let z : drop (k + 1) (rowsOf r w₀) ≡ replicate (16 - n) (blank r) =
+          sym (drop-drop 1 k (rowsOf r w₀)) ∙ ap (λ (y : Packets). drop 1 y) g ∙ drop-replicate 1 (16 - n) (blank r) in
+          record { array = i .array; room = h; zeros = rw e (i .rest h ∙ rw e at z); order = asc }
+      | no o ↦
+          let e : n ≡ k = omega arith in
+          let s = i .there e in
+          record { array = i .array; room = h; zeros = rw (e, s) (q .zeros); order = asc }
+    ]
 
--- packet j of an array comes next, each changed by g
-module _ (g : Packet → Packet) (x : List ℕ) (n j : ℕ) where
-  pub gather-at : {w : List ℕ} {k : ℕ} {whole : Packets} → Gathering w k (map g (drop j (chunks n x))) whole → j < n
-      → Gathering w k (g (rowAt x j) ∷ map g (drop (j + 1) (chunks n x))) whole
-  gather-at a h = rw (rows-at n x j h) at a
+module _ {r : ℕ} {w w′ : List ℕ} {p : Packet} {k n : ℕ} {left whole : Packets} (a : Gathering r w k (p ∷ left) whole)
+    (i : Inserted r w′ w k p n) where
+  pub gathering-next : n ≤ 16 → Gathering r w′ n left whole
+  unfolding union
+  gathering-next h = record { packed = inserted-packed (a .packed) i h; same = rw (i .made h) (a .same) }
 
-  pub gather-end : {w : List ℕ} {k : ℕ} {whole : Packets} → Gathering w k (map g (drop j (chunks n x))) whole → n ≤ j
-      → Gathering w k [] whole
-  gather-end a h = rw (rows-done n x j h) at a
+  pub gathering-count : n ≤ length whole
+  unfolding union
+  gathering-count = omega (arith, i .count, ap length (a .same), length-union-le (insert p (take k (rowsOf r w))) left)
 
-  pub gather-next : {w w′ : List ℕ} {k r : ℕ} → Gathering w k (map g (drop j (chunks n x))) (gathered (map g (chunks n x))) → j < n → n ≤ 16
-      → Inserted w′ w k (g (rowAt x j)) r → Gathering w′ r (map g (drop (j + 1) (chunks n x))) (gathered (map g (chunks n x)))
-  gather-next a h l i =
-      gathering-next (gather-at a h) i
-      (omega (arith, gathering-count (gather-at a h) i, gathered-few g (chunks n x), length-chunks n x))
+-- ---- a value written to a field of every row
 
--- packet j of an array comes next, as it is
-module _ (x : List ℕ) (n j : ℕ) {w : List ℕ} {k : ℕ} {whole : Packets} (a : Gathering w k (drop j (chunks n x)) whole) where
-  pub next-at : j < n → Gathering w k (rowAt x j ∷ drop (j + 1) (chunks n x)) whole
-  next-at h = rw (rows-at n x j h) at a
+pub changed-start : {r : ℕ} {v : List ℕ} (g : Packet → Packet) → Array r v → Changed r v v 0 g
+changed-start g a = record { array = a; same = refl; tail = refl }
 
-  pub next-end : n ≤ j → Held w k whole
-  next-end h = gathering-end (rw (rows-done n x j h) at a)
+pub changed-next : {r : ℕ} {w′ w w₀ : List ℕ} (i : ℕ) (g : Packet → Packet) → i < 16 → Changed r w w₀ i g
+    → Stored r w′ w i (g (getD (rowsOf r w) i [])) → Changed r w′ w₀ (i + 1) g
+changed-next {r} {w′} {w} {w₀} i g h a s =
+    let R = rowsOf r w in
+    let R₀ = rowsOf r w₀ in
+    let e = row-kept R R₀ i (a .tail) in
+    let f : i < length R = omega (arith, length-rows r w) in
+    let f₀ : i < length R₀ = omega (arith, length-rows r w₀) in
+    let t : take (i + 1) R₀ ≡ take i R₀ ++ getD R₀ i [] ∷ [] = rw add-one (take-suc R₀ i [] f₀) in
+    record {
+      array = s .array;
+      same = rw (s .rows, set-take R i (g (getD R i [])) f, a .same, e, t) (sym (map-append g (take i R₀) (getD R₀ i [] ∷ [])));
+      tail = rw (s .rows, set-drop R i (g (getD R i [])) f (i + 1) (omega arith), ← drop-drop 1 i R, ← drop-drop 1 i R₀, a .tail);
+    }
 
--- never too many, where they are no more than 16 from the start
-pub next-few : (x : List ℕ) (n j : ℕ) {w w′ : List ℕ} {k r : ℕ} → Gathering w k (drop j (chunks n x)) (gathered (chunks n x))
-    → j < n → n ≤ 16 → Inserted w′ w k (rowAt x j) r → Gathering w′ r (drop (j + 1) (chunks n x)) (gathered (chunks n x))
-next-few x n j a h l i =
-    let few = length-union-more [] (chunks n x) in
-    gathering-next (next-at x n j a h) i (omega (arith, gathering-count (next-at x n j a h) i, few, length-chunks n x))
+module _ {r : ℕ} {w w₀ : List ℕ} {n : ℕ} {g : Packet → Packet} (a : Changed r w w₀ n g) (q : Packed r w₀ n) where
+  -- they still ascend
+  pub changed-held : Ascending (take n (rowsOf r w)) → Held r w n (gathered (map g (take n (rowsOf r w₀))))
+  changed-held h = record {
+    packed = record { array = a .array; room = q .room; zeros = a .tail ∙ q .zeros; order = h };
+    same = sym (gathered-same (take n (rowsOf r w)) h) ∙ ap gathered (a .same);
+  }
+
+  -- or they are gathered anew
+  pub changed-zeroed : Zeroed r w n
+  changed-zeroed = record { array = a .array; room = q .room; zeros = a .tail ∙ q .zeros }
+
+  pub changed-anew : {v : List ℕ} {k : ℕ} → Held r v k (gathered (take n (rowsOf r w)))
+      → Held r v k (gathered (map g (take n (rowsOf r w₀))))
+  changed-anew k = held-as k (ap gathered (a .same))
+
+-- there is no such field
+put-out : (f x : ℕ) (p : Packet) → length p ≤ f → put f x p ≡ p
+unfolding put
+put-out f x p h = set-out p f x h
+
+put-all : (f x : ℕ) (s : Packets) → ((i : ℕ) → i < length s → length (getD s i []) ≤ f) → map (put f x) s ≡ s
+put-all f x [] h = refl
+put-all f x (p ∷ s) h = ap₂ (λ (y : Packet) (t : Packets). y ∷ t) (put-out f x p (h 0 (omega arith)))
+    (put-all f x s (λ i l. h (suc i) (omega arith)))
+
+pub none-put : {r : ℕ} {v : List ℕ} {n : ℕ} (f x : ℕ) → r ≤ f → Packed r v n → Held r v n (gathered (map (put f x) (take n (rowsOf r v))))
+none-put {r} {v} {n} f x h q =
+    let S = take n (rowsOf r v) in
+    let m = length-packets r v n (q .room) in
+    let e : map (put f x) S ≡ S = put-all f x S (λ i l.
+    rw (getD-take n (rowsOf r v) i [] (omega arith)) (omega (arith, length-row i (q .array) (omega (arith, q .room))))) in
+    held-as (held-self q) (sym (ap gathered e ∙ gathered-same S (q .order)))
+
+-- ---- rows found to ascend from the last on
+
+pub ascends-last : (R : Packets) (n : ℕ) → 1 ≤ n → n ≤ length R → Ascending (slice (n - 1) n R)
+ascends-last R n h l =
+    let e : n - 1 + 1 ≡ n = omega arith in
+    rw (slice-at R (n - 1) n (omega arith) l, e, slice-end R n n (omega arith)) (tt, tt)
+
+pub ascends-next : (R : Packets) (n i : ℕ) → 1 < i → i ≤ n → n ≤ length R → Ascending (slice (i - 1) n R)
+    → orderOf (getD R (i - 2) []) (getD R (i - 1) []) ≡ Less → Ascending (slice (i - 1 - 1) n R)
+ascends-next R n i h l m a e =
+    let d : i - 1 - 1 ≡ i - 2 = omega arith in
+    let f : i - 2 + 1 ≡ i - 1 = omega arith in
+    let u = slice-at R (i - 1) n (omega arith) m in
+    let b = rw u at a in
+    rw (d, slice-at R (i - 2) n (omega arith) m, f, u)
+    ((e, after-trans (getD R (i - 2) []) (getD R (i - 1) []) (slice (i - 1 + 1) n R) e (b .0)), b)
+
+pub ascends-short : (R : Packets) (n : ℕ) → n < 2 → Ascending (take n R)
+ascends-short R zero h = tt
+ascends-short [] (suc zero) h = tt
+ascends-short (x ∷ R) (suc zero) h = (tt, tt)
+ascends-short R (suc (suc n)) h = absurd (omega arith)

@@ -1,8 +1,7 @@
--- The laws that the proofs of sets share, from where a packet goes to what pairs.
-pub mod Ascents
-pub mod Sliding
-pub mod Inserting
+-- Laws of sets in arrays of rows.
+pub mod Rows
 pub mod Merging
+pub mod Inserting
 pub mod Sifting
 pub mod Pairing
-pub mod Writing
+pub mod Whole

@@ -5,21 +5,20 @@ use mathlib.Core.Bool.{Bool, true}
 use mathlib.Core.Logic.{inl, inr}
 use mathlib.Core.List.{List, [], _∷_}
 use native.Mathlib.Omega.{arith}
-use lib.ListN.{length, drop, length-drop}
-use lib.Seq.{drop-drop}
+use lib.ListN.{length, take, drop, getD}
+use lib.Seq.{slice, length-slice, drop-drop}
 use Rattle.rules.specs.declared.Order.the-variants.{Less, Same, More}
 use Rattle.rules.specs.Packets.{Packet, Packets, orderOf, Before, Ascending, _∈_, consIf, keep, member, lacks}
 use Rattle.rules.proofs.Orders.{order-same, order-turned, after-trans}
 use Rattle.rules.proofs.Sets.{after-out, after-not-in, lacks-in}
-use Rattle.rows.specs.Chunks.{chunks, rowAt, Packed}
-use Rattle.rows.specs.Arrays.{putRow}
-use Rattle.sets.specs.Inserts.{toFirst}
-use Rattle.rows.proofs.Chunks.{length-chunks, length-row, rows-at, rows-done}
-use Rattle.sets.proofs.Sliding.{Sliding, sliding-put, sliding-skip}
-use Rattle.sets.proofs.Ascents.{ascending-drop, ascending-at}
+use Rattle.rows.specs.Chunks.{rowsOf, Packed, Stored}
+use Rattle.rows.proofs.Chunks.{length-rows}
+use Rattle.sets.specs.Lists.{toFirst}
+use Rattle.sets.proofs.Rows.{Sliding, sliding-put, sliding-skip, slice-at, ascending-drop}
+use Rattle.sets.proofs.Merging.{ascending-at}
 
 -- tests that agree on the packets keep the same ones
-pub keep-cong : (g h : Packet → Bool) (s : Packets) → ((b : Packet) → b ∈ s → g b ≡ h b) → keep g s ≡ keep h s
+keep-cong : (g h : Packet → Bool) (s : Packets) → ((b : Packet) → b ∈ s → g b ≡ h b) → keep g s ≡ keep h s
 unfolding keep
 keep-cong g h [] e = refl
 keep-cong g h (x ∷ s) e =
@@ -66,40 +65,37 @@ first-more x s (y ∷ t) hs ht e = (omega arith, sift-more x y s t hs ht e)
 
 -- ---- in the loop, packet i of x against what is left of the first m of b
 
-module _ {w x b : List ℕ} {n m k : ℕ} (i j : ℕ) {whole : Packets} (qx : Packed x n) (qb : Packed b m) (hi : i < n)
-    (a : Sliding w x i k (keep (lacks (drop j (chunks m b))) (drop i (chunks n x))) whole) where
-  left : Ascending (drop j (chunks m b))
-  left = ascending-drop j (chunks m b) (qb .order)
+module _ {r : ℕ} {w x b : List ℕ} {n m k : ℕ} (i j : ℕ) {whole : Packets} (qx : Packed r x n) (qb : Packed r b m) (hi : i < n)
+    (a : Sliding r w x i k (keep (lacks (slice j m (rowsOf r b))) (slice i n (rowsOf r x))) whole) where
+  left : Ascending (slice j m (rowsOf r b))
+  left = ascending-drop j (take m (rowsOf r b)) (qb .order)
 
-  next : drop 1 (drop j (chunks m b)) ≡ drop (j + 1) (chunks m b)
-  next = drop-drop 1 j (chunks m b)
+  next : drop 1 (slice j m (rowsOf r b)) ≡ slice (j + 1) m (rowsOf r b)
+  next = drop-drop 1 j (take m (rowsOf r b))
 
-  some : 0 < length (drop j (chunks m b)) → j < m
-  some h = omega (arith, simp (length-drop, length-chunks) at h)
+  some : 0 < length (slice j m (rowsOf r b)) → j < m
+  some h = omega (arith, length-slice j m (rowsOf r b) (omega (arith, length-rows r b, qb .room)))
 
-  pub sifted-less : k ≤ i → toFirst (rowAt x i) (drop j (chunks m b)) ≡ Less
-      → Sliding (putRow w k (rowAt x i)) x (i + 1) (k + 1) (keep (lacks (drop j (chunks m b))) (drop (i + 1) (chunks n x))) whole
-  sifted-less l e =
-      sliding-put a (rowAt x i) _ (rw (rows-at n x i hi) (first-less _ _ _ (ascending-at x n i qx hi) left e)) l
-      (omega (arith, qx .room)) (length-row x i (qx .size) (omega (arith, qx .room)))
+  here : slice i n (rowsOf r x) ≡ getD (rowsOf r x) i [] ∷ slice (i + 1) n (rowsOf r x)
+  here = slice-at (rowsOf r x) i n hi (omega (arith, length-rows r x, qx .room))
 
-  pub sifted-same : toFirst (rowAt x i) (drop j (chunks m b)) ≡ Same
-      → (j < m) × Sliding w x (i + 1) k (keep (lacks (drop (j + 1) (chunks m b))) (drop (i + 1) (chunks n x))) whole
+  pub sifted-less : {w′ : List ℕ} → k ≤ i → toFirst (getD (rowsOf r x) i []) (slice j m (rowsOf r b)) ≡ Less
+      → Stored r w′ w k (getD (rowsOf r x) i [])
+      → Sliding r w′ x (i + 1) (k + 1) (keep (lacks (slice j m (rowsOf r b))) (slice (i + 1) n (rowsOf r x))) whole
+  sifted-less l e s =
+      sliding-put a (getD (rowsOf r x) i []) _ (rw here (first-less _ _ _ (ascending-at n i qx hi) left e)) l (omega (arith, qx .room)) s
+
+  pub sifted-same : toFirst (getD (rowsOf r x) i []) (slice j m (rowsOf r b)) ≡ Same
+      → (j < m) × Sliding r w x (i + 1) k (keep (lacks (slice (j + 1) m (rowsOf r b))) (slice (i + 1) n (rowsOf r x))) whole
   sifted-same e =
-      let f = first-same _ _ _ (ascending-at x n i qx hi) left e in
-      (some (f .0), sliding-skip a _ (rw (rows-at n x i hi, ← next) (f .1)))
+      let f = first-same _ _ _ (ascending-at n i qx hi) left e in
+      (some (f .0), sliding-skip a _ (rw (here, ← next) (f .1)))
 
-  pub sifted-more : toFirst (rowAt x i) (drop j (chunks m b)) ≡ More
-      → (j < m) × Sliding w x i k (keep (lacks (drop (j + 1) (chunks m b))) (drop i (chunks n x))) whole
+  pub sifted-more : toFirst (getD (rowsOf r x) i []) (slice j m (rowsOf r b)) ≡ More
+      → (j < m) × Sliding r w x i k (keep (lacks (slice (j + 1) m (rowsOf r b))) (slice i n (rowsOf r x))) whole
   sifted-more e =
-      let f = first-more _ _ _ (ascending-at x n i qx hi) left e in
-      let g : keep (lacks (drop j (chunks m b))) (drop i (chunks n x)) ≡ keep (lacks (drop (j + 1) (chunks m b))) (drop i (chunks n x)) =
-      rw (rows-at n x i hi, ← next) (f .1) in
-      (some (f .0), record { size = a .size; tail = a .tail; same = rw (← g) (a .same) })
-
--- how packet i lies to packet j, or to none
-pub weighed : (p b : List ℕ) (m j : ℕ) → j < m → toFirst p (drop j (chunks m b)) ≡ orderOf p (rowAt b j)
-weighed p b m j h = rw (rows-at m b j h)
-
-pub weighed-none : (p b : List ℕ) (m j : ℕ) → m ≤ j → toFirst p (drop j (chunks m b)) ≡ Less
-weighed-none p b m j h = rw (rows-done m b j h)
+      let f = first-more _ _ _ (ascending-at n i qx hi) left e in
+      let g : keep (lacks (slice j m (rowsOf r b))) (slice i n (rowsOf r x)) ≡ keep (lacks (slice (j + 1) m (rowsOf r b)))
+      (slice i n (rowsOf r x)) =
+      rw (here, ← next) (f .1) in
+      (some (f .0), record { array = a .array; tail = a .tail; same = rw (← g) (a .same) })

@@ -1,3 +1,3 @@
--- What the helpers of sets say.
-pub mod Inserts
-pub mod Merges
+-- What the contracts of sets say: a set by value, and the helpers on the list of an array's rows, where no width stands.
+pub mod Lists
+pub mod Whole

@@ -1,16 +1,83 @@
-// Sets of packets in a lent array with room for 16, changed in place: kept, set, put in, joined, taken away and paired.
-// What every operation does is said on the list of the array's packets, in the words of the rules.
+// Packet sets (document 01, "Packets and sets"): the struct that holds one by value, and what is done to the packets of a lent array with
+// room for 16, in place: kept, set, put in, joined, taken away and paired. There a row has r places; no function works on the places.
 ghost use mathlib.Core.Path.{_≡_};
 ghost use mathlib.Core.Bool.{true};
-ghost use mathlib.Core.List.{[], map};
+ghost use mathlib.Core.List.{[], _∷_, map};
 ghost use Prim.Native.Nat.{_+_, _<_, _≤_};
-ghost use lib.ListN.{length, drop};
-ghost use Rattle.rules.specs.Packets.{Ascending, passes, put, keep, gathered, union, lacks, mix, pairs};
-ghost use Rattle.rows.specs.Chunks.{chunks, rowAt, Packed, Held, Fits};
-ghost use Rattle.rows.specs.Arrays.{Written};
-ghost use Rattle.sets.specs.Inserts.{Placed, Shifted, Inserted, Joined, toFirst};
-ghost use Rattle.sets.specs.Merges.{Leads};
+ghost use lib.ListN.{length, take, getD};
+ghost use lib.Seq.{slice};
+ghost use Rattle.rules.specs.Masks.{allFields, less};
+ghost use Rattle.rules.specs.Packets.{places, mostPackets, Ascending, passes, put, keep, gathered, union, lacks, mix, without, pairs};
+ghost use Rattle.rows.specs.Chunks.{rowsOf, Array, Packed, Held, Fits};
+ghost use Rattle.sets.specs.Lists.{Placed, Shifted, Inserted, Joined, Changed, Zeroed, Raised, Lowered, Apart, toFirst, fromFirst};
+ghost use Rattle.sets.specs.Whole.{packetsOf, Is};
+use rows::MOST;
 use rules::Order;
+
+// The count that says that packets are more than 16.
+const TOO_MANY: usize = MOST + 1;
+
+// The places of a row, and the words of sixteen rows.
+pub const PLACES: usize = 8;
+
+const WORDS: usize = MOST * PLACES;
+
+pub type Values = [u16; WORDS];
+
+// A set by value: packet i has the values 8 i to 8 i + 7, and all after the last packet are 0. Bit f of the mask: the packets have field f.
+pub struct PacketSet {
+    pub values: Values,
+    pub count: usize,
+    pub mask: u8,
+}
+
+// The mask of the fields 0 to k - 1.
+pub fn all_fields(k: usize) -> u8
+    requires { ⌜ k ≤ places ⌝ }
+    ensures { λ m. ⌜ m ≡ allFields k ⌝ }
+{
+    if k < PLACES { (1u8 << k) - 1 } else { 255 }
+}
+
+// The set with no packet.
+pub fn empty(mask: u8) -> PacketSet
+    ensures { λ s. ⌜ Is s mask [] ⌝ }
+{
+    PacketSet {
+        values: [0u16; WORDS],
+        count: 0,
+        mask,
+    }
+}
+
+// The set of the first n packets of an array: only their rows are copied.
+pub fn copy_of(v: &[u16], n: usize, mask: u8) -> PacketSet
+    requires { ⌜ Packed places (now v) n ⌝ }
+    ensures { λ s. ⌜ Is s mask (packetsOf n (now (v .entry))) ⌝ }
+{
+    let mut w = [0u16; WORDS];
+    rows::copy_rows(&mut w, v, n, PLACES);
+    PacketSet {
+        values: w,
+        count: n,
+        mask,
+    }
+}
+
+// The set of one packet, a row by itself, without the fields of w.
+pub fn alone(p: &[u16], w: u8, mask: u8) -> PacketSet
+    requires { ⌜ places ≤ length (now p) ⌝ }
+    ensures { λ s. ⌜ Is s (less mask w) (without w (take places (now (p .entry))) ∷ []) ⌝ }
+{
+    let bare = rows::bare_row(w as u16, p, PLACES);
+    let mut x = [0u16; WORDS];
+    rows::put_row(&mut x, 0, &bare, PLACES);
+    PacketSet {
+        values: x,
+        count: 1,
+        mask: (mask | w) ^ w,
+    }
+}
 
 // Where a packet goes among others: before packet i, or it is there.
 enum Place {
@@ -19,32 +86,130 @@ enum Place {
 }
 
 // The packets that a test passes, moved to the front; gives how many they are.
-pub fn keep_in(v: &mut [u16; 128], n: usize, f: usize, x: u16) -> usize
-    requires { ⌜ Packed (now v) n ⌝ }
-    ensures { λ r. ⌜ Held (now (v .exit)) r (keep (passes f x) (chunks n (now (v .entry)))) ⌝ }
+pub fn keep_in(v: &mut [u16], n: usize, f: usize, x: u16, r: usize) -> usize
+    requires { ⌜ Packed r (now v) n ⌝ }
+    ensures { λ k. ⌜ Held r (now (v .exit)) k (keep (passes f x) (take n (rowsOf r (now (v .entry))))) ⌝ }
 {
     let mut j = 0;
     let mut k = 0;
     while j < n {
-        let p = rows::row(v, j);
+        let i = j;
         j += 1;
-        if rows::passes(p, f, x) {
-            rows::put_row(v, k, p);
+        if rows::passes_at(v, i, f, x, r) {
+            rows::move_row(v, k, i, r);
             k += 1;
         }
     }
-    rows::clear_rows(v, k, n);
+    rows::clear_rows(v, k, n, r);
     k
 }
 
+// Where a set of n and one of m packets end together, if no packet is in both; at 16, if that is less.
+fn top_of(n: usize, m: usize) -> usize
+    requires { ⌜ (n ≤ mostPackets) × (m ≤ mostPackets) ⌝ }
+    ensures { λ e. ⌜ (n ≤ e) × (e ≤ mostPackets) × (e ≤ n + m) × (e < mostPackets → e ≡ n + m) ⌝ }
+{
+    if MOST < n + m { MOST } else { n + m }
+}
+
+// The first n rows, h places up.
+fn raise(v: &mut [u16], n: usize, h: usize, r: usize)
+    requires { ⌜ (h + n ≤ mostPackets) × Array r (now v) ⌝ }
+    ensures { λ _. ⌜ Raised r (now (v .exit)) (now (v .entry)) n h ⌝ }
+{
+    let mut j = n;
+    while 0 < j {
+        j -= 1;
+        rows::move_row(v, h + j, j, r);
+    }
+}
+
+// How row i of a, whose packets end at e, lies to row j of b; after it, where a has no more.
+fn weigh(a: &[u16], i: usize, e: usize, b: &[u16], j: usize, r: usize) -> Order
+    requires { ⌜ (i ≤ e) × (e ≤ mostPackets) × (j < mostPackets) × Array r (now a) × Array r (now b) ⌝ }
+    ensures { λ o. ⌜ o ≡ fromFirst (slice i e (rowsOf r (now (a .entry)))) (getD (rowsOf r (now (b .entry))) j []) ⌝ }
+{
+    if i < e {
+        rows::order_rows(a, i, b, j, r)
+    } else {
+        Order::More
+    }
+}
+
+// Rows i to e - 1, moved down to row k, and zeros up to e; gives where they end.
+fn lower(v: &mut [u16], k: usize, i: usize, e: usize, r: usize) -> usize
+    requires { ⌜ (k ≤ i) × (i ≤ e) × (e ≤ mostPackets) × Array r (now v) ⌝ }
+    ensures { λ c. ⌜ Lowered r (now (v .exit)) (now (v .entry)) k i e c ⌝ }
+{
+    if k == i {
+        return e;
+    }
+    let mut a = i;
+    let mut c = k;
+    while a < e {
+        rows::move_row(v, c, a, r);
+        a += 1;
+        c += 1;
+    }
+    rows::clear_rows(v, c, e, r);
+    c
+}
+
+// The packets that stand from row h to row e, merged with the first m of b, from row 0 on: what is merged never reaches what is still to
+// be merged, unless they are more than 16. Gives how many they are, or 17 and zeros, where they are more than 16.
+fn merge_in(v: &mut [u16], h: usize, e: usize, b: &[u16], m: usize, r: usize) -> usize
+    requires { ⌜ Apart r (now v) h e m × Packed r (now b) m ⌝ }
+    ensures { λ k. ⌜ Fits r (now (v .exit)) k (union (slice h e (rowsOf r (now (v .entry)))) (take m (rowsOf r (now (b .entry))))) ⌝ }
+{
+    let mut i = h;
+    let mut j = 0;
+    let mut k = 0;
+    while j < m {
+        let o = weigh(v, i, e, b, j, r);
+        match o {
+            Order::Less => {
+                rows::move_row(v, k, i, r);
+                i += 1;
+                k += 1;
+            }
+            Order::Same => {
+                rows::move_row(v, k, i, r);
+                i += 1;
+                j += 1;
+                k += 1;
+            }
+            Order::More => {
+                if k == i {
+                    rows::clear_rows(v, 0, e, r);
+                    return TOO_MANY;
+                }
+                rows::copy_row(v, k, b, j, r);
+                j += 1;
+                k += 1;
+            }
+        }
+    }
+    lower(v, k, i, e, r)
+}
+
+// The packets of v and of b, in v; gives how many they are, or 17 and zeros, where they are more than 16. There is no other room.
+pub fn union_in(v: &mut [u16], n: usize, b: &[u16], m: usize, r: usize) -> usize
+    requires { ⌜ Packed r (now v) n × Packed r (now b) m ⌝ }
+    ensures { λ k. ⌜ Fits r (now (v .exit)) k (union (take n (rowsOf r (now (v .entry)))) (take m (rowsOf r (now (b .entry))))) ⌝ }
+{
+    let e = top_of(n, m);
+    raise(v, n, e - n, r);
+    merge_in(v, e - n, e, b, m, r)
+}
+
 // Where p goes among the first k packets of w, from the last on.
-fn place_in(w: &[u16; 128], k: usize, p: [u16; 8]) -> Place
-    requires { ⌜ Packed (now w) k ⌝ }
-    ensures { λ r. ⌜ Placed p (chunks k (now (w .entry))) r ⌝ }
+fn place_in(w: &[u16], k: usize, p: &[u16], r: usize) -> Place
+    requires { ⌜ (k ≤ mostPackets) × (r ≤ length (now p)) × Array r (now w) × Ascending (take k (rowsOf r (now w))) ⌝ }
+    ensures { λ o. ⌜ Placed (take r (now (p .entry))) (take k (rowsOf r (now (w .entry)))) o ⌝ }
 {
     let mut i = k;
     while 0 < i {
-        let o = rows::order_at(&p, 0, w, (i - 1) * 8);
+        let o = rows::order_row(p, w, i - 1, r);
         match o {
             Order::More => return Place::At(i),
             Order::Same => return Place::There,
@@ -54,58 +219,58 @@ fn place_in(w: &[u16; 128], k: usize, p: [u16; 8]) -> Place
     Place::At(0)
 }
 
-// Packets i to k - 1, each one place up.
-fn shift(w: &mut [u16; 128], i: usize, k: usize)
-    requires { ⌜ (i ≤ k) × (k < 16) × (length (now w) ≡ 128) ⌝ }
-    ensures { λ _. ⌜ Shifted (now (w .exit)) (now (w .entry)) i k ⌝ }
+// Rows i to k - 1, each one place up.
+fn shift(w: &mut [u16], i: usize, k: usize, r: usize)
+    requires { ⌜ (i ≤ k) × (k < mostPackets) × Array r (now w) ⌝ }
+    ensures { λ _. ⌜ Shifted r (now (w .exit)) (now (w .entry)) i k ⌝ }
 {
     let mut j = k;
     while i < j {
-        let q = rows::row(w, j - 1);
-        rows::put_row(w, j, q);
+        rows::move_row(w, j, j - 1, r);
         j -= 1;
     }
 }
 
-// p put in its place among the first k packets; gives how many they are then. Where they would be 17, the array stays.
-pub fn insert_in(w: &mut [u16; 128], k: usize, p: [u16; 8]) -> usize
-    requires { ⌜ Packed (now w) k ⌝ }
-    ensures { λ r. ⌜ Inserted (now (w .exit)) (now (w .entry)) k p r ⌝ }
+// p put in its place among the first k packets; gives how many they are then. Where they would be 17, the array stays; rows after row k
+// stay in any case.
+pub fn insert_in(w: &mut [u16], k: usize, p: &[u16], r: usize) -> usize
+    requires { ⌜ (k ≤ mostPackets) × (r ≤ length (now p)) × Array r (now w) × Ascending (take k (rowsOf r (now w))) ⌝ }
+    ensures { λ n. ⌜ Inserted r (now (w .exit)) (now (w .entry)) k (take r (now (p .entry))) n ⌝ }
 {
-    let o = place_in(w, k, p);
+    let o = place_in(w, k, p, r);
     match o {
         Place::There => k,
         Place::At(i) => {
-            if 16 <= k {
-                return 17;
+            if MOST <= k {
+                return TOO_MANY;
             }
-            shift(w, i, k);
-            rows::put_row(w, i, p);
+            shift(w, i, k, r);
+            rows::put_row(w, i, p, r);
             k + 1
         }
     }
 }
 
-// A value written to a field of each of the first n packets; they may be out of order then.
-fn write_in(v: &mut [u16; 128], n: usize, f: usize, x: u16)
-    requires { ⌜ (f < 8) × (n ≤ 16) × (length (now v) ≡ 128) ⌝ }
-    ensures { λ _. ⌜ Written (now (v .exit)) (now (v .entry)) n f x ⌝ }
+// "set field to value" at each of the first n rows; they may be out of order then.
+fn write_in(v: &mut [u16], n: usize, f: usize, x: u16, r: usize)
+    requires { ⌜ (f < r) × (n ≤ mostPackets) × Array r (now v) ⌝ }
+    ensures { λ _. ⌜ Changed r (now (v .exit)) (now (v .entry)) n (put f x) ⌝ }
 {
     let mut i = 0;
     while i < n {
-        v[i * 8 + f] = x;
+        rows::put_at(v, i, f, x, r);
         i += 1;
     }
 }
 
-// The first n packets ascend, from the last on; false may say nothing.
-fn ascends(v: &[u16; 128], n: usize) -> bool
-    requires { ⌜ (1 ≤ n) × (n ≤ 16) × (length (now v) ≡ 128) ⌝ }
-    ensures { λ r. ⌜ (r ≡ true → Ascending (chunks n (now (v .entry)))) ⌝ }
+// The first n rows ascend, from the last on; false may say nothing.
+fn ascends(v: &[u16], n: usize, r: usize) -> bool
+    requires { ⌜ (1 ≤ n) × (n ≤ mostPackets) × Array r (now v) ⌝ }
+    ensures { λ b. ⌜ (b ≡ true → Ascending (take n (rowsOf r (now (v .entry))))) ⌝ }
 {
     let mut i = n;
     while 1 < i {
-        let o = rows::order_at(v, (i - 2) * 8, v, (i - 1) * 8);
+        let o = rows::order_rows(v, i - 2, v, i - 1, r);
         match o {
             Order::Less => i -= 1,
             Order::Same => return false,
@@ -115,134 +280,65 @@ fn ascends(v: &[u16; 128], n: usize) -> bool
     true
 }
 
-// The first n packets of y, in whatever order, put in their places into an array of zeros; what is equal is one.
-fn gather_into(v: &mut [u16; 128], y: &[u16; 128], n: usize) -> usize
-    requires { ⌜ Held (now v) 0 [] × (n ≤ 16) × (length (now y) ≡ 128) ⌝ }
-    ensures { λ r. ⌜ Held (now (v .exit)) r (gathered (chunks n (now (y .entry)))) ⌝ }
+// The first n rows, in whatever order, put in their places; what is equal is one. Each is put among those before it, where they stand.
+fn gather_in(v: &mut [u16], n: usize, r: usize) -> usize
+    requires { ⌜ Zeroed r (now v) n ⌝ }
+    ensures { λ k. ⌜ Held r (now (v .exit)) k (gathered (take n (rowsOf r (now (v .entry))))) ⌝ }
 {
     let mut j = 0;
     let mut k = 0;
     while j < n {
-        let p = rows::row(y, j);
-        k = insert_in(v, k, p);
+        let p = rows::row(v, j, r);
+        k = insert_in(v, k, &p, r);
         j += 1;
     }
+    rows::clear_rows(v, k, n, r);
     k
 }
 
 // The packets with a field set; what becomes equal is one. Where they still ascend, nothing but that field is touched.
-pub fn set_in(v: &mut [u16; 128], n: usize, f: usize, x: u16) -> usize
-    requires { ⌜ Packed (now v) n ⌝ }
-    ensures { λ r. ⌜ Held (now (v .exit)) r (gathered (map (put f x) (chunks n (now (v .entry))))) ⌝ }
+pub fn set_in(v: &mut [u16], n: usize, f: usize, x: u16, r: usize) -> usize
+    requires { ⌜ Packed r (now v) n ⌝ }
+    ensures { λ k. ⌜ Held r (now (v .exit)) k (gathered (map (put f x) (take n (rowsOf r (now (v .entry)))))) ⌝ }
 {
-    if 8 <= f {
+    if r <= f {
         return n;
     }
-    write_in(v, n, f, x);
+    write_in(v, n, f, x, r);
     if n < 2 {
         return n;
     }
-    if ascends(v, n) {
+    if ascends(v, n, r) {
         return n;
     }
-    let y = *v;
-    rows::clear_rows(v, 0, n);
-    gather_into(v, &y, n)
+    gather_in(v, n, r)
 }
 
-// The next packet of a merge, and where the two sets go on after it.
-struct Turn {
-    row: [u16; 8],
-    i: usize,
-    j: usize,
-}
-
-fn taking(p: [u16; 8], i: usize, j: usize) -> Turn
-    ensures { λ t. ⌜ t ≡ record { row = p; i = i; j = j } ⌝ }
-{
-    Turn { row: p, i, j }
-}
-
-// The next packet of the union of the first n packets of a, from i on, and the first m of b, from j on.
-fn lead(a: &[u16; 128], i: usize, n: usize, b: &[u16; 128], j: usize, m: usize) -> Turn
-    requires { ⌜ (i ≤ n) × (j ≤ m) × (i + j < n + m) × Packed (now a) n × Packed (now b) m ⌝ }
-    ensures { λ t. ⌜ Leads t (chunks n (now (a .entry))) (chunks m (now (b .entry))) i j ⌝ }
+// How row i of a lies to row j of b, which has m packets; before it, where b has no more.
+fn weigh_out(a: &[u16], i: usize, b: &[u16], j: usize, m: usize, r: usize) -> Order
+    requires { ⌜ (i < mostPackets) × (j ≤ m) × (m ≤ mostPackets) × Array r (now a) × Array r (now b) ⌝ }
+    ensures { λ o. ⌜ o ≡ toFirst (getD (rowsOf r (now (a .entry))) i []) (slice j m (rowsOf r (now (b .entry)))) ⌝ }
 {
     if j < m {
-        if i < n {
-            let o = rows::order_at(a, i * 8, b, j * 8);
-            match o {
-                Order::Less => taking(rows::row(a, i), i + 1, j),
-                Order::Same => taking(rows::row(a, i), i + 1, j + 1),
-                Order::More => taking(rows::row(b, j), i, j + 1),
-            }
-        } else {
-            taking(rows::row(b, j), i, j + 1)
-        }
-    } else {
-        taking(rows::row(a, i), i + 1, j)
-    }
-}
-
-// The packets of a and of b, put into an array of zeros; gives how many they are, or 17 and the zeros, where they are more than 16.
-fn merge_into(v: &mut [u16; 128], a: &[u16; 128], n: usize, b: &[u16; 128], m: usize) -> usize
-    requires { ⌜ Held (now v) 0 [] × Packed (now a) n × Packed (now b) m ⌝ }
-    ensures { λ r. ⌜ Fits (now (v .exit)) r (union (chunks n (now (a .entry))) (chunks m (now (b .entry)))) ⌝ }
-{
-    let mut i = 0;
-    let mut j = 0;
-    let mut k = 0;
-    while i + j < n + m {
-        if k == 16 {
-            rows::clear_rows(v, 0, 16);
-            return 17;
-        }
-        let t = lead(a, i, n, b, j, m);
-        let p = t.row;
-        rows::put_row(v, k, p);
-        i = t.i;
-        j = t.j;
-        k += 1;
-    }
-    k
-}
-
-// The packets of v and of b, merged and put back into v; gives how many they are, or 17 and zeros, where they are more than 16.
-pub fn union_in(v: &mut [u16; 128], n: usize, b: &[u16; 128], m: usize) -> usize
-    requires { ⌜ Packed (now v) n × Packed (now b) m ⌝ }
-    ensures { λ r. ⌜ Fits (now (v .exit)) r (union (chunks n (now (v .entry))) (chunks m (now (b .entry)))) ⌝ }
-{
-    let a = *v;
-    rows::clear_rows(v, 0, n);
-    merge_into(v, &a, n, b, m)
-}
-
-// How packet i of a lies to packet j of b, which has m; before it, where b has no such packet.
-fn weigh(a: &[u16; 128], i: usize, b: &[u16; 128], j: usize, m: usize) -> Order
-    requires { ⌜ (i < 16) × (j ≤ m) × (length (now a) ≡ 128) × Packed (now b) m ⌝ }
-    ensures { λ r. ⌜ r ≡ toFirst (rowAt (now (a .entry)) i) (drop j (chunks m (now (b .entry)))) ⌝ }
-{
-    if j < m {
-        rows::order_at(a, i * 8, b, j * 8)
+        rows::order_rows(a, i, b, j, r)
     } else {
         Order::Less
     }
 }
 
 // The packets of v that are not in b, moved to the front; gives how many they are.
-pub fn difference_in(v: &mut [u16; 128], n: usize, b: &[u16; 128], m: usize) -> usize
-    requires { ⌜ Packed (now v) n × Packed (now b) m ⌝ }
-    ensures { λ r. ⌜ Held (now (v .exit)) r (keep (lacks (chunks m (now (b .entry)))) (chunks n (now (v .entry)))) ⌝ }
+pub fn difference_in(v: &mut [u16], n: usize, b: &[u16], m: usize, r: usize) -> usize
+    requires { ⌜ Packed r (now v) n × Packed r (now b) m ⌝ }
+    ensures { λ k. ⌜ Held r (now (v .exit)) k (keep (lacks (take m (rowsOf r (now (b .entry))))) (take n (rowsOf r (now (v .entry))))) ⌝ }
 {
     let mut i = 0;
     let mut j = 0;
     let mut k = 0;
     while i < n {
-        let o = weigh(v, i, b, j, m);
+        let o = weigh_out(v, i, b, j, m, r);
         match o {
             Order::Less => {
-                let p = rows::row(v, i);
-                rows::put_row(v, k, p);
+                rows::move_row(v, k, i, r);
                 i += 1;
                 k += 1;
             }
@@ -253,51 +349,85 @@ pub fn difference_in(v: &mut [u16; 128], n: usize, b: &[u16; 128], m: usize) -> 
             Order::More => j += 1,
         }
     }
-    rows::clear_rows(v, k, n);
+    rows::clear_rows(v, k, n, r);
     k
 }
 
-// The pairings of p with the first m packets of y, put among the first k of v; gives how many they are then, 17 if more than 16.
-fn pair_in(v: &mut [u16; 128], k: usize, p: [u16; 8], y: &[u16; 128], m: usize, w: u8) -> usize
-    requires { ⌜ Packed (now v) k × Packed (now y) m ⌝ }
-    ensures { λ r. ⌜ Joined (now (v .exit)) (now (v .entry)) k (map (mix w p) (chunks m (now (y .entry)))) r ⌝ }
+// The pairings of row i of a with the first m packets of y, put among the first k of v; gives how many they are then, 17 if more than 16.
+fn pair_in(
+    v: &mut [u16],
+    k: usize,
+    a: &[u16],
+    i: usize,
+    y: &[u16],
+    m: usize,
+    w: u16,
+    r: usize,
+) -> usize
+    requires { ⌜ (i < mostPackets) × Packed r (now v) k × Array r (now a) × Packed r (now y) m ⌝ }
+    ensures { λ n. ⌜ Joined r (now (v .exit)) (now (v .entry)) k
+        (map (mix w (getD (rowsOf r (now (a .entry))) i [])) (take m (rowsOf r (now (y .entry))))) n ⌝ }
 {
     let mut j = 0;
     let mut c = k;
     while j < m {
-        let q = rows::mix(w, p, rows::row(y, j));
-        c = insert_in(v, c, q);
-        if 16 < c {
-            return 17;
+        let q = rows::mix_rows(w, a, i, y, j, r);
+        c = insert_in(v, c, &q, r);
+        if MOST < c {
+            return TOO_MANY;
         }
         j += 1;
     }
     c
 }
 
-// Every pairing of a packet of a and one of b, put into an array of zeros: the fields w from b's, all others from a's.
-// Gives how many they are, or 17 and the zeros, where they are more than 16.
-pub fn pairs_into(
-    v: &mut [u16; 128],
-    a: &[u16; 128],
-    n: usize,
-    b: &[u16; 128],
-    m: usize,
-    w: u8,
-) -> usize
-    requires { ⌜ Held (now v) 0 [] × Packed (now a) n × Packed (now b) m ⌝ }
-    ensures { λ r. ⌜ Fits (now (v .exit)) r (pairs w (chunks n (now (a .entry))) (chunks m (now (b .entry)))) ⌝ }
+// Every pairing of a packet of a and one of b, put into an array of zeros.
+fn pair_all(v: &mut [u16], a: &[u16], n: usize, b: &[u16], m: usize, w: u16, r: usize) -> usize
+    requires { ⌜ Held r (now v) 0 [] × Packed r (now a) n × Packed r (now b) m ⌝ }
+    ensures { λ k. ⌜ Fits r (now (v .exit)) k (pairs w (take n (rowsOf r (now (a .entry)))) (take m (rowsOf r (now (b .entry))))) ⌝ }
 {
     let mut i = 0;
     let mut k = 0;
     while i < n {
-        let p = rows::row(a, i);
-        k = pair_in(v, k, p, b, m, w);
-        if 16 < k {
-            rows::clear_rows(v, 0, 16);
-            return 17;
+        k = pair_in(v, k, a, i, b, m, w, r);
+        if MOST < k {
+            rows::clear_rows(v, 0, MOST, r);
+            return TOO_MANY;
         }
         i += 1;
     }
     k
+}
+
+// The pairing of the first packets of a and b, put into an array of zeros.
+fn pair_one(v: &mut [u16], a: &[u16], b: &[u16], w: u16, r: usize) -> usize
+    requires { ⌜ Held r (now v) 0 [] × Array r (now a) × Array r (now b) ⌝ }
+    ensures { λ k. ⌜ Fits r (now (v .exit)) k (pairs w (take 1 (rowsOf r (now (a .entry)))) (take 1 (rowsOf r (now (b .entry))))) ⌝ }
+{
+    let q = rows::mix_rows(w, a, 0, b, 0, r);
+    rows::put_row(v, 0, &q, r);
+    1
+}
+
+// Every pairing of a packet of a and one of b, put into an array of zeros: the fields w from b's, all others from a's. Of one and one
+// nothing is compared. Gives how many they are, or 17 and the zeros, where they are more than 16.
+pub fn pairs_into(
+    v: &mut [u16],
+    a: &[u16],
+    n: usize,
+    b: &[u16],
+    m: usize,
+    w: u16,
+    r: usize,
+) -> usize
+    requires { ⌜ Held r (now v) 0 [] × Packed r (now a) n × Packed r (now b) m ⌝ }
+    ensures { λ k. ⌜ Fits r (now (v .exit)) k (pairs w (take n (rowsOf r (now (a .entry)))) (take m (rowsOf r (now (b .entry))))) ⌝ }
+{
+    if n != 1 {
+        return pair_all(v, a, n, b, m, w, r);
+    }
+    if m != 1 {
+        return pair_all(v, a, n, b, m, w, r);
+    }
+    pair_one(v, a, b, w, r)
 }

@@ -1,57 +1,38 @@
--- The words from packet k up to word i are zero.
-use Prim.Native.Nat.{ℕ, _*_, _-_, _≤_}
-use mathlib.Core.Path.{_≡_, ap, _∙_}
-use mathlib.Core.List.{List, _++_}
-use native.Mathlib.Omega.{arith}
-use lib.ListN.{length, take, drop, set, replicate}
-use Rattle.rows.specs.Arrays.{cleared}
-use Rattle.rows.proofs.Clearing.{cleared-none, cleared-next, length-cleared}
+-- The words of rows k to n - 1 are cleared, if there are any.
+use Rattle.rows.proofs.Clearing.{words-within, cleared-words, cleared-none}
 use borrow.Author.Needs.{needs}
 use Rattle.rows.proofs.clear_rows.Statement.{statement}
 use Rattle.rows.proofs.clear_rows.Tie as tie
 
-abbrev Inv-loop : tie.InvT-loop
-Inv-loop v₀ k n i₀ v i = (k * 8 ≤ i) × (i ≤ n * 8) × (v ≡ take (k * 8) v₀ ++ (replicate (i - k * 8) 0 ++ drop i v₀))
+clear-words-requires : tie.Need-clear-words-requires
+clear-words-requires c κs =
+    let i = c .before .before .before in
+    let s = i .before .before in
+    words-within (s .args .k) (s .args .n) (i .if1 .taken) (s .pre .1) (s .pre .2)
+    (c .before .before .start .ensures .0) (c .before .start2 .ensures .0)
 
-abbrev μ-loop : tie.MeasureT-loop
-μ-loop v₀ k n i₀ v i = n * 8 - i
-
-loop-holds : tie.Need-loop-holds Inv-loop μ-loop
-loop-holds c = (omega arith, omega arith, cleared-none (c .args .v .now) (c .args .k * 8))
-
-element-write-v : tie.Need-element-write-v Inv-loop μ-loop
-element-write-v c =
-    let s = c .before .before in
-    let l = c .before .loop in
-    let n = length-cleared (s .args .v .now) (s .args .k * 8) (l .i) (l .inv .0) (omega (arith, s .pre)) in
-    omega (arith, ap length (l .inv .2), n, s .pre)
-
-loop-again : tie.Need-loop-again Inv-loop μ-loop
-loop-again c =
-    let s = c .before .before in
-    let l = c .before .loop in
-    let n = cleared-next (s .args .v .now) (s .args .k * 8) (l .i) (l .inv .0) (omega (arith, s .pre)) in
-    (omega arith, omega arith, ap (λ (x : List ℕ). set x (l .i) 0) (l .inv .2) ∙ n)
-
-returns : tie.Need-returns Inv-loop μ-loop
-unfolding cleared
+returns : tie.Need-returns
 returns c =
-    let l = c .before .loop in
-    let e : l .i ≡ c .before .before .args .n * 8 = omega arith in
-    rw e at (l .inv .2)
+    let w = c .before .before in
+    let i = w .before .before .before .before in
+    let s = i .before .before in
+    cleared-words (s .args .k) (s .args .n) (i .if1 .taken) (s .pre .1) (s .pre .2)
+    (w .before .before .before .start .ensures .0) (w .before .before .start2 .ensures .0) (w .clear-words .ensures)
+
+returns-2 : tie.Need-returns-2
+returns-2 c =
+    let s = c .before .before in
+    cleared-none (s .args .k) (s .args .n) (s .pre .0) (c .if1 .left) (s .pre .2)
 
 pub clear-rows-spec : {M : Type 1} → statement M
 clear-rows-spec =
     tie.close
     (tie.spec
-    Inv-loop
-    μ-loop
+    (λ c κs. search needs)
     (λ c. search needs)
-    loop-holds
+    (λ c κs. search needs)
     (λ c. search needs)
+    clear-words-requires
     (λ c. search needs)
-    element-write-v
-    (λ c. search needs)
-    (λ c. search needs)
-    loop-again
-    returns)
+    returns
+    returns-2)

@@ -1,32 +1,35 @@
 -- The first f values are written.
-use Prim.Native.Nat.{_≤_, _-_}
+use Prim.Native.Nat.{_≤_, _<_, _-_}
 use mathlib.Core.Path.{_≡_, ap, _∙_}
 use native.Mathlib.Omega.{arith}
 use native.Mathlib.Numerals.{add-one}
-use lib.ListN.{length}
-use lib.Seq.{paste, paste-zero, paste-suc, length-paste}
+use lib.ListN.{length, drop, length-drop}
+use lib.Seq.{paste, paste-zero, paste-suc, length-paste, getD-drop}
 use borrow.Author.Needs.{needs}
 use Rattle.rows.proofs.copy_in.Statement.{statement}
 use Rattle.rows.proofs.copy_in.Tie as tie
 
 abbrev Inv-loop : tie.InvT-loop
-Inv-loop out₀ at p k f₀ out f = (f ≤ k) × (out ≡ paste out₀ at p f)
+Inv-loop out₀ at v b k f₀ out f =
+    (f ≤ k) × (out ≡ paste out₀ at (drop b v) f)
 
 abbrev μ-loop : tie.MeasureT-loop
-μ-loop out₀ at p k f₀ out f = k - f
+μ-loop out₀ at v b k f₀ out f = k - f
 
 long : (c : tie.At-loop Inv-loop μ-loop) → length (c .loop .out) ≡ length (c .before .args .out .now)
 long c =
     let g = c .before .args in
-    ap length (c .loop .inv .1)
-    ∙ length-paste (g .out .now) (g .at) (g .p .now) (c .loop .f) (omega (arith, c .before .pre)) (omega (arith, c .before .pre))
+    let m : c .loop .f ≤ length (drop (g .b) (g .v .now)) = simp length-drop (omega (arith, c .before .pre)) in
+    ap length (c .loop .inv .1) ∙ length-paste (g .out .now) (g .at) (drop (g .b) (g .v .now)) (c .loop .f)
+    (omega (arith, c .before .pre)) m
 
 loop-again : tie.Need-loop-again Inv-loop μ-loop
 loop-again c =
     let l = c .before .before in
     let g = l .before .args in
-    let n = paste-suc (g .out .now) (g .at) (g .p .now) (l .loop .f) 0 (omega (arith, l .before .pre)) (omega (arith, l .before .pre)) in
-    (omega arith, rw (l .loop .inv .1, add-one) n)
+    let m : l .loop .f < length (drop (g .b) (g .v .now)) = simp length-drop (omega (arith, l .before .pre)) in
+    let n = paste-suc (g .out .now) (g .at) (drop (g .b) (g .v .now)) (l .loop .f) 0 (omega (arith, l .before .pre)) m in
+    (omega arith, rw (l .loop .inv .1, add-one) (rw (getD-drop (g .b) (g .v .now) (l .loop .f) 0) at n))
 
 returns : tie.Need-returns Inv-loop μ-loop
 returns c =
@@ -39,7 +42,8 @@ copy-in-spec =
     (tie.spec
     Inv-loop
     μ-loop
-    (λ c. (search needs, paste-zero (c .args .out .now) (c .args .at) (c .args .p .now)))
+    (λ c. (search needs, paste-zero (c .args .out .now) (c .args .at) (drop (c .args .b) (c .args .v .now))))
+    (λ c. search needs)
     (λ c. search needs)
     (λ c. search needs)
     (λ c. search needs)

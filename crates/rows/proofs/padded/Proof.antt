@@ -1,4 +1,4 @@
--- `padded` meets its contract.
+-- The words up to i are copied.
 use borrow.Author.Needs.{needs}
 use mathlib.Core.Path.{_≡_, refl}
 use mathlib.Core.List.{_++_}

@@ -1,16 +1,17 @@
--- Eight reads in a row are the packet.
+-- The row is taken up and laid down by itself.
+use Rattle.rows.proofs.Chunks.{row-alone}
 use borrow.Author.Needs.{needs}
-use mathlib.Core.Path.{_∙_}
-use Prim.Native.Nat.{_*_}
-use native.Mathlib.Omega.{arith}
-use Rattle.rows.proofs.Chunks.{eight-at}
 use Rattle.rows.proofs.row.Statement.{statement}
 use Rattle.rows.proofs.row.Tie as tie
 
 returns : tie.Need-returns
 returns c =
-    let a = c .before .args in
-    c .read8 .ensures ∙ eight-at (a .v .now) (a .i * 8) (omega (arith, c .before .pre))
+    let l = c .before in
+    let f = l .before .before in
+    let q = f .before in
+    let s = q .before .before in
+    row-alone (s .args .j) _ _ _ (s .pre .1) (s .pre .0) (q .start .ensures .0) (l .lay .ensures _ (f .lift .ensures))
 
 pub row-spec : {M : Type 1} → statement M
-row-spec = tie.close (tie.spec (λ c. search needs) (λ c κs. search needs) returns)
+row-spec = tie.close (tie.spec (λ c κs. search needs) (λ c. search needs) (λ c κs. search needs) (λ c. search needs) (λ c. search needs)
+    (λ c κs. search needs) returns)

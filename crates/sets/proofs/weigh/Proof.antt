@@ -1,18 +1,23 @@
--- By whether there is a packet j.
-use mathlib.Core.Path.{sym, _∙_}
-use Rattle.sets.proofs.Sifting.{weighed, weighed-none}
+-- By whether there is a row i.
+use native.Mathlib.Omega.{arith}
+use Rattle.rows.specs.Chunks.{rowsOf}
+use Rattle.rows.proofs.Chunks.{length-rows}
+use Rattle.sets.proofs.Rows.{slice-at, slice-end}
 use borrow.Author.Needs.{needs}
 use Rattle.sets.proofs.weigh.Statement.{statement}
 use Rattle.sets.proofs.weigh.Tie as tie
 
 returns : tie.Need-returns
 returns c =
-    let g = c .before .before .before .before .args in
-    c .order-at .ensures ∙ sym (weighed _ (g .b .now) (g .m) (g .j) (search needs))
+    let s = c .before .before .before .before in
+    let a = s .args in
+    let R = rowsOf (a .r) (a .a .now) in
+    rw (slice-at R (a .i) (a .e) (search needs) (omega (arith, length-rows (a .r) (a .a .now), s .pre))) (c .order-rows .ensures)
 
 returns-2 : tie.Need-returns-2
-returns-2 c = let g = c .before .args in sym (weighed-none _ (g .b .now) (g .m) (g .j) (search needs))
+returns-2 c =
+    let a = c .before .before .before .args in
+    rw (slice-end (rowsOf (a .r) (a .a .now)) (a .i) (a .e) (search needs))
 
 pub weigh-spec : {M : Type 1} → statement M
-weigh-spec =
-    tie.close (tie.spec (λ c. search needs) (λ c. search needs) (λ c κs. search needs) returns returns-2)
+weigh-spec = tie.close (tie.spec (λ c κs. search needs) returns returns-2)
