@@ -13,7 +13,7 @@ use Rattle.rules.specs.declared.Sizes.{Sizes}
 use Rattle.rules.specs.declared.Verdict.the-variants.{Accepted, Refused}
 use Rattle.rules.specs.declared.Outcome.{Outcome}
 use Rattle.rules.specs.declared.Evaluated.the-variants.{Given, NotGiven}
-use Rattle.rules.specs.Packets.{Packets, mostPackets, valuesOf}
+use Rattle.rules.specs.Packets.{places, Packets, mostPackets, valuesOf}
 use Rattle.rules.specs.Parts.{namesOpen}
 use Rattle.rules.specs.Books.{mostDepth}
 use Rattle.rules.specs.Checks.{noPlace}
@@ -24,8 +24,9 @@ use Rattle.rules.specs.Promises.{EvaluateAnswer}
 use Rattle.rules.proofs.Answering.{not-given-keeps, evaluated-refused, evaluated-packet, evaluated-buffer}
 use Rattle.rules.proofs.Answering.{evaluated-open, evaluated-wide, evaluated-given, evaluate-answer}
 use Rattle.rules.proofs.AcceptedBooks.{accepted-sizes, accepted-fields, accepted-parts, accepted-deep}
-use Rattle.rows.specs.Chunks.{chunks, Held}
-use Rattle.rows.specs.Areas.{Emitted}
+use Rattle.rows.specs.Chunks.{Held}
+use Rattle.sets.specs.Whole.{packetsOf}
+use Rattle.rows.specs.Arrays.{Emitted}
 use Rattle.evaluator.specs.Work.{namedIn, partIn, Fair, Did, Sees}
 use Rattle.evaluator.specs.Passing.{Passable, Passed, Passes, TooWide as WideIn}
 use Rattle.evaluator.specs.declared.Worked.{Worked}
@@ -33,7 +34,7 @@ use Rattle.evaluator.specs.declared.Weight.{Weight}
 use Rattle.evaluator.specs.declared.Passage.{Passage}
 use Rattle.evaluator.specs.declared.Passage.the-variants.{Open, Wide, Through}
 use Rattle.evaluator.specs.declared.Looked.{Looked}
-use Rattle.rows.proofs.Fillings.{held-self, held-count, held-few}
+use Rattle.rows.proofs.Holding.{held-self, held-count, held-few}
 
 -- what is answered beside the packets
 abbrev pub outcomeOf : Weight → Sizes → Outcome
@@ -97,13 +98,13 @@ module _ (s p b : List ℕ) where
             (record { sizes = z; accepted = says; words = words; populated = g .populated; narrow = g .narrow })
             (rw (fields-are s z says) at space)
 
-        pub given-is : (f : Bool) (o : List ℕ) → Emitted f (valuesOf (z .fields) (chunks (w .count) v)) b o
+        pub given-is : (f : Bool) (o : List ℕ) → Emitted f (valuesOf (z .fields) (packetsOf (w .count) v)) b o
             → EvaluateAnswer s p b (Given (outcomeOf w z)) o
         unfolding evaluatedResult overwritten given outcome sizesOf
         given-is f o m =
             let y = accepted-sizes s z says in
-            let few = values-few (z .fields) (chunks (w .count) v) in
-            let c : length (chunks (w .count) v) ≤ mostPackets = held-few (held-self (g .held .packed)) in
+            let few = values-few (z .fields) (packetsOf (w .count) v) in
+            let c : length (packetsOf (w .count) v) ≤ mostPackets = held-few (held-self (g .held .packed)) in
             let t : f ≡ true = m .fits ∙ le-leb _ _ (fits-in (z .fields) _ _ few c space) in
             let n : w .count ≡ length (out (mainOf s) (startSet p)) = held-count (g .held) in
             evaluate-answer (rw (within, n, g .steps, g .room, y)) (m .words ∙ rw (within, t, fields-are s z says, g .held .same))
@@ -151,6 +152,6 @@ module _ (s : List ℕ) (start : ℕ) (e : start ≡ bodyStart s 0) where
   main-fair z v closed =
       rw (main-is s start e) (record { few = accepted-parts s z v; shallow = accepted-deep s z v; closed = closed })
 
-  pub main-did : (p : List ℕ) {x v : List ℕ} {m n : ℕ} {w : Worked} → Held x m (startSet p)
-      → Did (partIn s true mostDepth start) (chunks m x) n v w → Did (mainOf s) (startSet p) n v w
+  pub main-did : (p : List ℕ) {x v : List ℕ} {m n : ℕ} {w : Worked} → Held places x m (startSet p)
+      → Did (partIn s true mostDepth start) (packetsOf m x) n v w → Did (mainOf s) (startSet p) n v w
   main-did p k d = rw (main-is s start e, k .same) at d

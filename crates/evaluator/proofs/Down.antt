@@ -5,18 +5,21 @@ use mathlib.Core.Path.{_≡_, refl, ap, _∙_}
 use mathlib.Core.Bool.{Bool, true, false, _||_}
 use mathlib.Core.List.{List, [], _∷_}
 use lib.ListN.{length, drop, length-drop}
-use Rattle.rules.specs.Packets.{Packet, Packets, without, union, pairs, mostPackets}
+use lib.Seq.{take-suc}
+use Rattle.rules.specs.Packets.{places, Packet, Packets, without, union, pairs, mostPackets}
 use Rattle.rules.specs.Parts.{Part, Not, Sum, Seq, Beside, Table, parts, deep, namesOpen}
 use Rattle.rules.specs.Reading.{partAt, after}
 use Rattle.rules.specs.Working.{each, out, steps, room, own, width}
 use Rattle.rules.proofs.Bounds.{limit, room-steps, handed, width-one, width-more}
-use Rattle.rows.specs.Chunks.{chunks, rowAt, Packed, Held, Fits}
-use Rattle.rows.proofs.Chunks.{length-chunks, rows-at, rows-done}
-use Rattle.rows.proofs.Fillings.{held-few}
+use Rattle.rows.specs.Chunks.{rowsOf, Packed, Held, Fits}
+use Rattle.sets.specs.Whole.{packetsOf, packetAt}
+use Rattle.sets.proofs.Rows.{slice-at, slice-end}
+use Rattle.rows.proofs.Chunks.{length-rows}
+use Rattle.rows.proofs.Holding.{length-packets, held-few}
 use Rattle.evaluator.specs.Work.{Fair, Fine, Did, Small, Joins}
 use Rattle.evaluator.specs.declared.Worked.{Worked}
 use Rattle.evaluator.proofs.WorkLaws.{no, did-over}
-use Rattle.evaluator.proofs.Decoder.{Stands}
+use Rattle.rules.proofs.CodeLaws.{Stands}
 
 -- ---- down
 
@@ -72,18 +75,19 @@ fair-under u f =
     record { few = omega (arith, u .less, f .few); shallow = omega (arith, u .shallow, f .shallow); closed = u .closed (f .closed) }
 
 -- what a call of evaluate_part on a part below asks: 20 for each part, so that the packets left fit between
-pub down : {p q : Part} {v : List ℕ} {n : ℕ} (t : ℕ) → Under p q → 20 * parts q ≡ t → Fair q → Packed v n
-    → (20 * parts p + 19 < t) × (Fair p × Packed v n)
+pub down : {p q : Part} {v : List ℕ} {n : ℕ} (t : ℕ) → Under p q → 20 * parts q ≡ t → Fair q → Packed places v n
+    → (20 * parts p + 19 < t) × (Fair p × Packed places v n)
 down t u e f k = (omega (arith, u .less), (fair-under u f, k))
 
-pub down-table : {p q : Part} {v : List ℕ} {n x r w start : ℕ} (t : ℕ) → p ≡ Table x r w start q → 20 * parts p ≡ t → Fair p → Packed v n
-    → (20 * parts q + 19 < t) × (Fair q × Packed v n)
+pub down-table : {p q : Part} {v : List ℕ} {n x r w start : ℕ} (t : ℕ) → p ≡ Table x r w start q → 20 * parts p ≡ t → Fair p
+    → Packed places v n
+    → (20 * parts q + 19 < t) × (Fair q × Packed places v n)
 down-table t e h f k = down t under-table (rw e at h) (rw e at f) k
 
 -- what a call from evaluate_part asks
 module _ {s : List ℕ} {named : ℕ → Part} {d at : ℕ} {p : Part} {n : ℕ} (k : Stands s named d at p n) where
-  pub enter : {v : List ℕ} {m : ℕ} (t : ℕ) → 20 * parts (partAt s named d at) + 19 ≡ t → Fair (partAt s named d at) → Packed v m
-      → (20 * parts p < t) × (Fair p × Packed v m)
+  pub enter : {v : List ℕ} {m : ℕ} (t : ℕ) → 20 * parts (partAt s named d at) + 19 ≡ t → Fair (partAt s named d at) → Packed places v m
+      → (20 * parts p < t) × (Fair p × Packed places v m)
   enter t h f q = (omega (arith, ap parts (k .part)), (rw (k .part) at f, q))
 
   pub enter-beside : (t : ℕ) → 20 * parts (partAt s named d at) + 19 ≡ t → Fair (partAt s named d at) → (20 * parts p + 18 < t) × Fair p
@@ -142,12 +146,12 @@ goes-on s named n at d e b = rw (d .fine e .next) at b
 
 -- what was joined
 abbrev pub Joint : ℕ → Worked → Worked → Worked → Type 0
-Joint c a b r = (s : Packets) (v : List ℕ) → Fits v c s → Joins s v a b r
+Joint c a b r = (s : Packets) (v : List ℕ) → Fits places v c s → Joins s v a b r
 
 -- sum
 pub did-sum : {p q : Part} {s : Packets} {n k c : ℕ} {v w u : List ℕ} {a b r : Worked}
     → Did p s n v a → a .wide ≡ false → Did q s k w b → b .wide ≡ false → Joint c a b r
-    → Fits u c (union (chunks (a .count) v) (chunks (b .count) w)) → Did (Sum p q) s k u r
+    → Fits places u c (union (packetsOf (a .count) v) (packetsOf (b .count) w)) → Did (Sum p q) s k u r
 unfolding out steps room width own
 did-sum {p} {q} {s} {n} {k} {c} {v} {w} {u} {a} {b} {r} d e d′ e′ j f =
     let g = d .fine e in
@@ -166,7 +170,7 @@ did-sum {p} {q} {s} {n} {k} {c} {v} {w} {u} {a} {b} {r} d e d′ e′ j f =
 
 -- sequence: the second part on what the first gave
 module _ {p q : Part} {s : Packets} {n k : ℕ} {v w : List ℕ} {a b : Worked}
-    (d : Did p s n v a) (e : a .wide ≡ false) (d′ : Did q (chunks (a .count) v) k w b) where
+    (d : Did p s n v a) (e : a .wide ≡ false) (d′ : Did q (packetsOf (a .count) v) k w b) where
   after-first : Did q (out p s) k w b
   after-first = rw (d .fine e .held .same) at d′
 
@@ -179,10 +183,26 @@ module _ {p q : Part} {s : Packets} {n k : ℕ} {v w : List ℕ} {a b : Worked}
       → Did (Seq p q) s k w r
   did-seq-at h f = f p q s n k v w (d .fine e) (after-first .fine h)
 
--- what a part gives on one packet without some fields
-pub on-alone : {p : Part} {n m : ℕ} {v y : List ℕ} {a : Worked} (w w′ : ℕ) (x : Packet) → Held v m (without w x ∷ []) → w ≡ w′
-    → Did p (chunks m v) n y a → Did p (without w′ x ∷ []) n y a
-on-alone w w′ x k e d = rw (k .same, e) at d
+-- what a part gives on the packets of an array
+pub did-on : {p : Part} {s : Packets} {n m : ℕ} {v y : List ℕ} {a : Worked} → Held places v m s → Did p (packetsOf m v) n y a
+    → Did p s n y a
+did-on k d = rw (k .same) at d
+
+-- what a part gives on a packet by itself
+pub did-row : {p : Part} {x z : Packet} {k : ℕ} {y : List ℕ} {a : Worked} → x ≡ z → Did p (x ∷ []) k y a → Did p (z ∷ []) k y a
+did-row e d = rw e at d
+
+-- what a part gives on the only packet of an array
+pub did-only : {p : Part} (v : List ℕ) {n k : ℕ} {y : List ℕ} {a : Worked} → n ≡ 1 → Did p (packetAt v 0 ∷ []) k y a
+    → Did p (packetsOf n v) k y a
+did-only v e d =
+    let h = take-suc (rowsOf places v) 0 [] (omega (arith, length-rows places v)) in
+    rw (e, h) d
+
+-- packet i of the n of v, and those after it
+from-here : {v : List ℕ} {n : ℕ} (i : ℕ) → Packed places v n → i < n
+    → drop i (packetsOf n v) ≡ packetAt v i ∷ drop (i + 1) (packetsOf n v)
+from-here {v} {n} i k h = slice-at (rowsOf places v) i n h (omega (arith, k .room, length-rows places v))
 
 -- a concurrent part on one packet, and on more
 module _ {wp wq : ℕ} {p q : Part} where
@@ -195,7 +215,7 @@ module _ {wp wq : ℕ} {p q : Part} where
 
   pub did-pair : {n k c : ℕ} {x : Packet} {v w u : List ℕ} {a b r : Worked}
       → Did p (without wq x ∷ []) n v a → a .wide ≡ false → Did q (without wp x ∷ []) k w b → b .wide ≡ false → Joint c a b r
-      → Fits u c (pairs wq (chunks (a .count) v) (chunks (b .count) w)) → Did (Beside wp wq p q) (x ∷ []) k u r
+      → Fits places u c (pairs wq (packetsOf (a .count) v) (packetsOf (b .count) w)) → Did (Beside wp wq p q) (x ∷ []) k u r
   unfolding out steps room each own
   did-pair {n} {k} {c} {x} {v} {w} {u} {a} {b} {r} d e d′ e′ j f =
       let g = d .fine e in
@@ -214,7 +234,7 @@ module _ {wp wq : ℕ} {p q : Part} where
 
   split : {n k c : ℕ} {x : Packet} (s : Packets) {v w u : List ℕ} {a b r : Worked} → length (x ∷ s) ≤ mostPackets → 0 < length s
       → Did (Beside wp wq p q) (x ∷ []) n v a → a .wide ≡ false → Did (Beside wp wq p q) s k w b → b .wide ≡ false → Joint c a b r
-      → Fits u c (union (chunks (a .count) v) (chunks (b .count) w)) → Did (Beside wp wq p q) (x ∷ s) k u r
+      → Fits places u c (union (packetsOf (a .count) v) (packetsOf (b .count) w)) → Did (Beside wp wq p q) (x ∷ s) k u r
   unfolding out steps room each own
   split [] few some d e d′ e′ j f = absurd (omega arith)
   split {n} {k} {c} {x} (y ∷ s) {v} {w} {u} {a} {b} {r} few some d e d′ e′ j f =
@@ -233,28 +253,32 @@ module _ {wp wq : ℕ} {p q : Part} where
       }
 
   -- packet i of the n of v and those after it
-  module _ {m : ℕ} (v : List ℕ) (n i : ℕ) where
-    pub walk-none : {x : List ℕ} {r : Worked} → i ≡ n → Did (Beside wp wq p q) [] m x r → Did (Beside wp wq p q) (drop i (chunks n v)) m x r
-    walk-none e d = rw (rows-done n v i (omega arith)) d
+  module _ {m : ℕ} (v : List ℕ) (n i : ℕ) (k : Packed places v n) where
+    pub walk-none : {x : List ℕ} {r : Worked} → i ≡ n → Did (Beside wp wq p q) [] m x r
+        → Did (Beside wp wq p q) (drop i (packetsOf n v)) m x r
+    walk-none e d = rw (slice-end (rowsOf places v) i n (omega arith)) d
 
-    module _ {x : List ℕ} {a : Worked} (h : i < n) (d : Did (Beside wp wq p q) (rowAt v i ∷ []) m x a) where
-      pub walk-over : {k : ℕ} → a .wide ≡ true → Did (Beside wp wq p q) (drop i (chunks n v)) k x a
+    module _ {x : List ℕ} {a : Worked} (h : i < n) (d : Did (Beside wp wq p q) (packetAt v i ∷ []) m x a) where
+      pub walk-over : {k : ℕ} → a .wide ≡ true → Did (Beside wp wq p q) (drop i (packetsOf n v)) k x a
       walk-over e =
-          rw (rows-at n v i h) (did-over e (omega (arith, d .over e, width-more wp wq p q (rowAt v i) (drop (i + 1) (chunks n v)))))
+          rw (from-here i k h) (did-over e (omega (arith, d .over e, width-more wp wq p q (packetAt v i) (drop (i + 1) (packetsOf n v)))))
 
-      pub walk-last : i + 1 ≡ n → Did (Beside wp wq p q) (drop i (chunks n v)) m x a
-      walk-last e = rw (rows-at n v i h, rows-done n v (i + 1) (omega arith)) d
+      pub walk-last : i + 1 ≡ n → Did (Beside wp wq p q) (drop i (packetsOf n v)) m x a
+      walk-last e = rw (from-here i k h, slice-end (rowsOf places v) (i + 1) n (omega arith)) d
 
-      pub walk-split : {k c : ℕ} {w u : List ℕ} {b r : Worked} → Packed v n → a .wide ≡ false → i + 1 < n
-          → Did (Beside wp wq p q) (drop (i + 1) (chunks n v)) k w b → b .wide ≡ false → Joint c a b r
-          → Fits u c (union (chunks (a .count) x) (chunks (b .count) w)) → Did (Beside wp wq p q) (drop i (chunks n v)) k u r
-      walk-split k e l d′ e′ j f =
-          let few : length (rowAt v i ∷ drop (i + 1) (chunks n v)) ≤ mostPackets =
-          rw (length-drop, length-chunks) (omega (arith, k .room)) in
-          let some : 0 < length (drop (i + 1) (chunks n v)) = rw (length-drop, length-chunks) (omega arith) in
-          rw (rows-at n v i h) (split (drop (i + 1) (chunks n v)) few some d e d′ e′ j f)
+      pub walk-split : {k c : ℕ} {w u : List ℕ} {b r : Worked} → a .wide ≡ false → i + 1 < n
+          → Did (Beside wp wq p q) (drop (i + 1) (packetsOf n v)) k w b → b .wide ≡ false → Joint c a b r
+          → Fits places u c (union (packetsOf (a .count) x) (packetsOf (b .count) w))
+          → Did (Beside wp wq p q) (drop i (packetsOf n v)) k u r
+      walk-split e l d′ e′ j f =
+          let all = length-packets places v n (k .room) in
+          let few : length (packetAt v i ∷ drop (i + 1) (packetsOf n v)) ≤ mostPackets =
+          rw (length-drop, all) (omega (arith, k .room)) in
+          let some : 0 < length (drop (i + 1) (packetsOf n v)) = rw (length-drop, all) (omega arith) in
+          rw (from-here i k h) (split (drop (i + 1) (packetsOf n v)) few some d e d′ e′ j f)
 
-    pub walk-rest : {k : ℕ} {x w : List ℕ} {b : Worked} → i < n → Did (Beside wp wq p q) (drop (i + 1) (chunks n v)) m x b → b .wide ≡ true
-        → Did (Beside wp wq p q) (drop i (chunks n v)) k w b
+    pub walk-rest : {k : ℕ} {x w : List ℕ} {b : Worked} → i < n → Did (Beside wp wq p q) (drop (i + 1) (packetsOf n v)) m x b
+        → b .wide ≡ true
+        → Did (Beside wp wq p q) (drop i (packetsOf n v)) k w b
     walk-rest h d e =
-        rw (rows-at n v i h) (did-over e (omega (arith, d .over e, width-more wp wq p q (rowAt v i) (drop (i + 1) (chunks n v)))))
+        rw (from-here i k h) (did-over e (omega (arith, d .over e, width-more wp wq p q (packetAt v i) (drop (i + 1) (packetsOf n v)))))

@@ -6,20 +6,21 @@ use mathlib.Core.Bool.{Bool, true, false, cond, _||_}
 use mathlib.Core.Option.{none, some}
 use mathlib.Core.List.{List}
 use lib.Dec.{eqb}
-use lib.ListN.{length, getD}
+use lib.ListN.{getD}
 use borrow.Author.Tests.{eqb-true, eqb-false, ne-eqb}
+use Rattle.rules.specs.declared.Head.{Head}
 use Rattle.rules.specs.declared.Shape.{Shape}
 use Rattle.rules.specs.Codes.{shapeAt, partsOf}
 use Rattle.rules.specs.Parts.{Part, Id, Drop, Test, Set, Not, Sum, Seq, Beside, Table, Open, namesOpen}
 use Rattle.rules.specs.Books.{useOf, noUse, mostDepth, Scope, Fine, Bytes}
-use Rattle.rules.specs.Reading.{skip, after, head, built, partAt, bodyAt, useAt, lengthAt, readsAt, writesAt, bodyStart, mainOf}
+use Rattle.rules.specs.Reading.{skip, after, head, headAt, built, partAt, bodyAt, useAt, lengthAt, readsAt, writesAt, bodyStart, mainOf}
 use Rattle.rules.proofs.ReadingLaws.{parts-small}
 use Rattle.rules.proofs.FineLaws.{OfUses}
 use Rattle.rules.proofs.Inside.{main-placed}
 use Rattle.evaluator.specs.Work.{Sees, IsAccepted, Populated}
 use Rattle.evaluator.specs.declared.Looked.{Looked}
 use Rattle.evaluator.proofs.WorkLaws.{no}
-use Rattle.evaluator.proofs.Decoder.{Stands, stands-zero, stands-end, stands-code}
+use Rattle.rules.proofs.CodeLaws.{Stands, stands-zero, stands-head, stands-as}
 
 abbrev pub looked : Bool → ℕ → Looked
 looked f n = record { found = f; next = n }
@@ -36,17 +37,14 @@ module _ (s : List ℕ) (named : ℕ → Part) (d at : ℕ) where
   pub sees-zero : d ≡ 0 → Sees (partAt s named d at) (after s d at) (looked false at)
   sees-zero e = sees-there (stands-zero s named d at e) (sees-id at)
 
-  pub sees-end : length s ≤ at → Sees (partAt s named d at) (after s d at) (looked false at)
-  sees-end h = sees-there (stands-end s named d at h) (sees-id at)
-
 -- by how many parts stand below
 abbrev over : ℕ → Bool → Bool → Bool
 over zero a b = false
 over (suc zero) a b = a
 over (suc (suc n)) a b = a || b
 
-module _ (s : List ℕ) (named : ℕ → Part) (at : ℕ) (l r : Part) where
-  names-built : (c : ℕ) → (c ≡ 8 → ⊥) → namesOpen (built (head s at) named c l r) ≡ over (partsOf c) (namesOpen l) (namesOpen r)
+module _ (h : Head) (named : ℕ → Part) (l r : Part) where
+  names-built : (c : ℕ) → (c ≡ 8 → ⊥) → namesOpen (built h named c l r) ≡ over (partsOf c) (namesOpen l) (namesOpen r)
   unfolding built namesOpen
   names-built zero h = refl
   names-built (suc zero) h = refl
@@ -124,46 +122,45 @@ all-closed s v small h =
     fine-closed _ (useAt s) (λ m x l u. names-use s x ∙ ne-eqb (lengthAt s x) 0 (h x l u)) mostDepth false (mainOf s)
     (main-placed s (v .0) (v .1) small .fine)
 
-pub sees-use : (s : List ℕ) (x b y at : ℕ) (f : Bool) → f ≡ eqb y 0 → y ≡ lengthAt s b → b ≡ x → Sees (useAt s x) at (looked f at)
-sees-use s x b y at f e g q =
-    record { found = e ∙ ap (λ (z : ℕ). eqb z 0) (g ∙ ap (lengthAt s) q) ∙ sym (names-use s x); next = λ _. refl }
+-- a use of a table, whose body has y bytes
+pub sees-use : (s : List ℕ) (x y at : ℕ) (f : Bool) → f ≡ eqb y 0 → y ≡ lengthAt s x → Sees (useAt s x) at (looked f at)
+sees-use s x y at f e g =
+    record { found = e ∙ ap (λ (z : ℕ). eqb z 0) g ∙ sym (names-use s x); next = λ _. refl }
 
--- a code other than 8, with its row of the table of codes
-module _ (s : List ℕ) (named : ℕ → Part) (d at : ℕ) (hd : d ≡ 0 → ⊥) (h : at < length s) (h8 : getD s at 0 ≡ 8 → ⊥)
-    (x : Shape) (ex : x ≡ shapeAt (getD s at 0)) where
-  stood : Stands s named d at
-      (built (head s at) named (getD s at 0) (partAt s named (d - 1) (at + 1 + x .operands))
-      (partAt s named (d - 1) (after s (d - 1) (at + 1 + x .operands))))
-      (skip (partsOf (getD s at 0)) (after s (d - 1)) (at + 1 + x .operands))
-  stood = stands-code s named d at hd h (getD s at 0) (at + 1 + x .operands) refl (rw ex)
+-- by the head h
+module _ (s : List ℕ) (named : ℕ → Part) (d at : ℕ) (hd : d ≡ 0 → ⊥) (h : Head) (eh : h ≡ headAt s at) where
+  pub sees-table : {r : Looked} → h .code ≡ 8 → Sees (named (h .table)) (h .from) r → Sees (partAt s named d at) (after s d at) r
+  unfolding built
+  sees-table e = sees-there (stands-as s named d at hd h eh 8 e)
 
-  below : partsOf (getD s at 0) ≡ x .parts
-  below = rw ex
+  -- a code other than 8, with its row of the table of codes
+  module _ (h8 : h .code ≡ 8 → ⊥) (x : Shape) (ex : x ≡ shapeAt (h .code)) where
+    below : partsOf (h .code) ≡ x .parts
+    below = rw ex
 
-  names : namesOpen (partAt s named d at)
-      ≡ over (x .parts) (namesOpen (partAt s named (d - 1) (at + 1 + x .operands)))
-      (namesOpen (partAt s named (d - 1) (after s (d - 1) (at + 1 + x .operands))))
-  names = ap namesOpen (stood .part) ∙ names-built (head s at) named _ _ (getD s at 0) h8 ∙ rw below
+    names : namesOpen (partAt s named d at)
+        ≡ over (x .parts) (namesOpen (partAt s named (d - 1) (h .from))) (namesOpen (partAt s named (d - 1) (after s (d - 1) (h .from))))
+    names = ap namesOpen (stands-head s named d at hd h eh .part) ∙ names-built h named _ _ (h .code) h8 ∙ rw below
 
-  place : after s d at ≡ skip (x .parts) (after s (d - 1)) (at + 1 + x .operands)
-  place = stood .next ∙ rw below
+    place : after s d at ≡ skip (x .parts) (after s (d - 1)) (h .from)
+    place = stands-head s named d at hd h eh .next ∙ rw below
 
-  pub sees-none : x .parts ≡ 0 → Sees (partAt s named d at) (after s d at) (looked false (at + 1 + x .operands))
-  sees-none e = record { found = sym (names ∙ rw e); next = λ _. sym (place ∙ rw e) }
+    pub sees-none : x .parts ≡ 0 → Sees (partAt s named d at) (after s d at) (looked false (h .from))
+    sees-none e = record { found = sym (names ∙ rw e); next = λ _. sym (place ∙ rw e) }
 
-  module _ {a : Looked} (k : Sees (partAt s named (d - 1) (at + 1 + x .operands)) (after s (d - 1) (at + 1 + x .operands)) a) where
-    pub sees-found : a .found ≡ true → (x .parts ≡ 0 → ⊥) → Sees (partAt s named d at) (after s d at) a
-    sees-found e z =
-        record { found = e ∙ sym (names ∙ first (x .parts) _ _ z (sym (k .found) ∙ e)); next = λ f. no (sym e ∙ f) }
+    module _ {a : Looked} (k : Sees (partAt s named (d - 1) (h .from)) (after s (d - 1) (h .from)) a) where
+      pub sees-found : a .found ≡ true → (x .parts ≡ 0 → ⊥) → Sees (partAt s named d at) (after s d at) a
+      sees-found e z =
+          record { found = e ∙ sym (names ∙ first (x .parts) _ _ z (sym (k .found) ∙ e)); next = λ f. no (sym e ∙ f) }
 
-    pub sees-one : x .parts ≡ 1 → Sees (partAt s named d at) (after s d at) a
-    sees-one e = record { found = k .found ∙ sym (names ∙ rw e); next = λ f. k .next f ∙ sym (place ∙ rw e) }
+      pub sees-one : x .parts ≡ 1 → Sees (partAt s named d at) (after s d at) a
+      sees-one e = record { found = k .found ∙ sym (names ∙ rw e); next = λ f. k .next f ∙ sym (place ∙ rw e) }
 
-    pub sees-two : {r : Looked} → a .found ≡ false → (x .parts ≡ 0 → ⊥) → (x .parts ≡ 1 → ⊥)
-        → Sees (partAt s named (d - 1) (a .next)) (after s (d - 1) (a .next)) r → Sees (partAt s named d at) (after s d at) r
-    sees-two {r} e z o m =
-        let b : x .parts ≤ 2 = rw ex (parts-small (getD s at 0)) in
-        let t : x .parts ≡ 2 = omega arith in
-        let m′ = rw (k .next e) at m in
-        let l : namesOpen (partAt s named (d - 1) (at + 1 + x .operands)) ≡ false = sym (k .found) ∙ e in
-        record { found = m′ .found ∙ sym (names ∙ rw (t, l)); next = λ f. m′ .next f ∙ sym (place ∙ rw t) }
+      pub sees-two : {r : Looked} → a .found ≡ false → (x .parts ≡ 0 → ⊥) → (x .parts ≡ 1 → ⊥)
+          → Sees (partAt s named (d - 1) (a .next)) (after s (d - 1) (a .next)) r → Sees (partAt s named d at) (after s d at) r
+      sees-two {r} e z o m =
+          let b : x .parts ≤ 2 = rw ex (parts-small (h .code)) in
+          let t : x .parts ≡ 2 = omega arith in
+          let m′ = rw (k .next e) at m in
+          let l : namesOpen (partAt s named (d - 1) (h .from)) ≡ false = sym (k .found) ∙ e in
+          record { found = m′ .found ∙ sym (names ∙ rw (t, l)); next = λ f. m′ .next f ∙ sym (place ∙ rw t) }

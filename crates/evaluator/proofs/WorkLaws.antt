@@ -5,12 +5,13 @@ use mathlib.Core.Path.{_≡_, refl, sym, _∙_}
 use mathlib.Core.Bool.{Bool, true, false}
 use mathlib.Core.List.{List, [], map}
 use lib.ListN.{length}
-use Rattle.rules.specs.Packets.{Packets, passes, put, keep, lacks, gathered, mostPackets}
+use Rattle.rules.specs.Packets.{places, Packets, passes, put, keep, lacks, gathered, mostPackets}
 use Rattle.rules.specs.Parts.{Part, Id, Drop, Test, Set, Not, Seq, Beside, Table}
 use Rattle.rules.specs.Working.{each, out, steps, room, own, widest, width}
 use Rattle.rules.proofs.Bounds.{handed, given}
-use Rattle.rows.specs.Chunks.{chunks, Packed, Held, Fits}
-use Rattle.rows.proofs.Fillings.{held-self, held-few, fits-few, fits-many}
+use Rattle.rows.specs.Chunks.{Packed, Held, Fits}
+use Rattle.sets.specs.Whole.{packetsOf}
+use Rattle.rows.proofs.Holding.{held-self, held-few, fits-few, fits-many}
 use Rattle.evaluator.specs.Work.{worked, Fine, Did, Joins}
 use Rattle.evaluator.specs.declared.Worked.{Worked}
 
@@ -25,37 +26,38 @@ module _ {p : Part} {s : Packets} {n : ℕ} {v : List ℕ} {r : Worked} where
   did-fine e h = record { over = λ f. no (sym f ∙ e); fine = λ _. h }
 
 -- an array has at most 16 packets
-pub packed-few : {v : List ℕ} {n : ℕ} → Packed v n → length (chunks n v) ≤ mostPackets
+pub packed-few : {v : List ℕ} {n : ℕ} → Packed places v n → length (packetsOf n v) ≤ mostPackets
 packed-few k = held-few (held-self k)
 
 -- parts with no part below
-module _ {v : List ℕ} {n : ℕ} (k : Packed v n) (a : ℕ) where
-  pub did-id : Did Id (chunks n v) a v (worked n 0 1 a)
+module _ {v : List ℕ} {n : ℕ} (k : Packed places v n) (a : ℕ) where
+  pub did-id : Did Id (packetsOf n v) a v (worked n 0 1 a)
   unfolding out steps room width own
   did-id =
       did-fine refl (record { narrow = omega (arith, packed-few k); held = held-self k; steps = refl; room = refl; next = refl })
 
   module _ {w : List ℕ} {c : ℕ} where
-    pub did-drop : Held w c [] → Did Drop (chunks n v) a w (worked c 1 1 a)
+    pub did-drop : Held places w c [] → Did Drop (packetsOf n v) a w (worked c 1 1 a)
     unfolding out steps room width own
     did-drop h = did-fine refl (record { narrow = omega (arith, packed-few k); held = h; steps = refl; room = refl; next = refl })
 
-    pub did-test : (f x : ℕ) → Held w c (keep (passes f x) (chunks n v)) → Did (Test f x) (chunks n v) a w (worked c 1 1 a)
+    pub did-test : (f x : ℕ) → Held places w c (keep (passes f x) (packetsOf n v)) → Did (Test f x) (packetsOf n v) a w (worked c 1 1 a)
     unfolding out steps room width own
     did-test f x h =
         did-fine refl (record { narrow = omega (arith, packed-few k, held-few h); held = h; steps = refl; room = refl; next = refl })
 
-    pub did-set : (f x : ℕ) → Held w c (gathered (map (put f x) (chunks n v))) → Did (Set f x) (chunks n v) a w (worked c 1 1 a)
+    pub did-set : (f x : ℕ) → Held places w c (gathered (map (put f x) (packetsOf n v)))
+        → Did (Set f x) (packetsOf n v) a w (worked c 1 1 a)
     unfolding out steps room width own
     did-set f x h =
         did-fine refl (record { narrow = omega (arith, packed-few k, held-few h); held = h; steps = refl; room = refl; next = refl })
 
-pub did-not : {v : List ℕ} {n : ℕ} → Packed v n → {x w : List ℕ} {c : ℕ} (a : Worked)
-    → Held w c (keep (lacks (chunks (a .count) x)) (chunks n v)) → (p : Part) (k : ℕ) → Fine p (chunks n v) k x a
-    → Did (Not p) (chunks n v) k w (worked c (a .steps + 2) (1 + a .room) (a .next))
+pub did-not : {v : List ℕ} {n : ℕ} → Packed places v n → {x w : List ℕ} {c : ℕ} (a : Worked)
+    → Held places w c (keep (lacks (packetsOf (a .count) x)) (packetsOf n v)) → (p : Part) (k : ℕ) → Fine p (packetsOf n v) k x a
+    → Did (Not p) (packetsOf n v) k w (worked c (a .steps + 2) (1 + a .room) (a .next))
 unfolding out steps room width own
 did-not {v} {n} q {x} {w} {c} a h p k f =
-    let h′ : Held w c (keep (lacks (out p (chunks n v))) (chunks n v)) = rw (f .held .same) at h in
+    let h′ : Held places w c (keep (lacks (out p (packetsOf n v))) (packetsOf n v)) = rw (f .held .same) at h in
     did-fine refl (record {
       narrow = omega (arith, packed-few q, held-few h′, f .narrow);
       held = h′;
@@ -66,7 +68,7 @@ did-not {v} {n} q {x} {w} {c} a h p k f =
 
 -- a union or a pairing that fits, and one that does not
 module _ (c : ℕ) (a b : Worked) where
-  pub joins-fits : c ≤ 16 → (s : Packets) (v : List ℕ) → Fits v c s
+  pub joins-fits : c ≤ 16 → (s : Packets) (v : List ℕ) → Fits places v c s
       → Joins s v a b (worked c (a .steps + b .steps + 2) (1 + (a .room + b .room)) (b .next))
   joins-fits h s v f = record {
     over = λ e. no (sym e);
@@ -76,7 +78,7 @@ module _ (c : ℕ) (a b : Worked) where
     next = λ _. refl;
   }
 
-  pub joins-not : (r : Worked) → 16 < c → r .wide ≡ true → (s : Packets) (v : List ℕ) → Fits v c s → Joins s v a b r
+  pub joins-not : (r : Worked) → 16 < c → r .wide ≡ true → (s : Packets) (v : List ℕ) → Fits places v c s → Joins s v a b r
   joins-not r h w s v f = record {
     over = λ _. fits-many f h;
     held = λ e. no (sym w ∙ e);
@@ -109,6 +111,7 @@ did-table a next x rd w start p s n v f =
       next = refl;
     })
 
-pub did-none : (a n : ℕ) → a ≡ n → (wp wq : ℕ) (p q : Part) (v : List ℕ) → Held v 0 [] → Did (Beside wp wq p q) [] n v (worked 0 1 1 a)
+pub did-none : (a n : ℕ) → a ≡ n → (wp wq : ℕ) (p q : Part) (v : List ℕ) → Held places v 0 []
+    → Did (Beside wp wq p q) [] n v (worked 0 1 1 a)
 unfolding out steps room width own widest each
 did-none a n e wp wq p q v h = did-fine refl (record { narrow = omega arith; held = h; steps = refl; room = refl; next = e })

@@ -4,7 +4,7 @@ use mathlib.Core.Path.{_≡_}
 use mathlib.Core.Bool.{true, false}
 use mathlib.Core.List.{List}
 use lib.ListN.{length}
-use Rattle.rules.specs.Packets.{mostPackets}
+use Rattle.rules.specs.Packets.{places, mostPackets}
 use Rattle.rules.specs.Parts.{namesOpen}
 use Rattle.rules.specs.Reading.{fieldsOf, mainOf}
 use Rattle.rules.specs.Working.{out, steps, room, width}
@@ -24,7 +24,7 @@ pub record Passable (book packet : List ℕ) : Type 0 where
 pub record Passed (book packet : List ℕ) (w : Weight) (v : List ℕ) : Type 0 where
   pub populated : namesOpen (mainOf book) ≡ false
   pub narrow : width (mainOf book) (startSet packet) ≤ mostPackets
-  pub held : Held v (w .count) (out (mainOf book) (startSet packet))
+  pub held : Held places v (w .count) (out (mainOf book) (startSet packet))
   pub steps : w .steps ≡ steps (mainOf book) (startSet packet)
   pub room : w .room ≡ room (mainOf book) (startSet packet)
 

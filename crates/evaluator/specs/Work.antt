@@ -4,13 +4,14 @@ use Prim.Native.Nat.{ℕ, _+_, _≤_, _<_}
 use mathlib.Core.Path.{_≡_}
 use mathlib.Core.Bool.{Bool, true, false}
 use mathlib.Core.List.{List}
-use lib.ListN.{length, getD}
-use Rattle.rules.specs.Packets.{Packets, mostPackets}
-use Rattle.rules.specs.Parts.{Part, Test, Set, Not, Sum, Seq, Beside, parts, deep, namesOpen}
+use lib.ListN.{length}
+use Rattle.rules.specs.Packets.{places, Packets, mostPackets}
+use Rattle.rules.specs.Parts.{Part, Not, Sum, Seq, Beside, parts, deep, namesOpen}
 use Rattle.rules.specs.Books.{mostParts, mostBeside, noUse}
+use Rattle.rules.specs.declared.Head.{Head}
 use Rattle.rules.specs.declared.Sizes.{Sizes}
 use Rattle.rules.specs.declared.Verdict.the-variants.{Accepted}
-use Rattle.rules.specs.Reading.{lengthAt, tablesOf, verdict, partAt, useAt, after, numberAt}
+use Rattle.rules.specs.Reading.{lengthAt, tablesOf, verdict, partAt, useAt, after}
 use Rattle.rules.specs.Working.{out, steps, room, width}
 use Rattle.rows.specs.Chunks.{Held}
 use Rattle.evaluator.specs.declared.Worked.{Worked}
@@ -25,14 +26,7 @@ namedIn s false = noUse
 abbrev pub partIn : List ℕ → Bool → ℕ → ℕ → Part
 partIn s main d at = partAt s (namedIn s main) d at
 
--- a test and a set whose code stands at a place
-abbrev pub testAt : List ℕ → ℕ → Part
-testAt s at = Test (getD s (at + 1) 0) (numberAt s (at + 2))
-
-abbrev pub setAt : List ℕ → ℕ → Part
-setAt s at = Set (getD s (at + 1) 0) (numberAt s (at + 2))
-
--- the parts over the parts from a place on, and the concurrent part whose code stands at a place
+-- the parts over the parts from a place on, and the concurrent part with a head
 abbrev pub notFrom : List ℕ → Bool → ℕ → ℕ → Part
 notFrom s main d from = Not (partIn s main d from)
 
@@ -42,9 +36,8 @@ sumFrom s main d from = Sum (partIn s main d from) (partIn s main d (after s d f
 abbrev pub seqFrom : List ℕ → Bool → ℕ → ℕ → Part
 seqFrom s main d from = Seq (partIn s main d from) (partIn s main d (after s d from))
 
-abbrev pub besideAt : List ℕ → Bool → ℕ → ℕ → Part
-besideAt s main d at =
-    Beside (getD s (at + 1) 0) (getD s (at + 2) 0) (partIn s main d (at + 3)) (partIn s main d (after s d (at + 3)))
+abbrev pub besideOf : List ℕ → Bool → ℕ → Head → Part
+besideOf s main d h = Beside (h .left) (h .right) (partIn s main d (h .from)) (partIn s main d (after s d (h .from)))
 
 -- the place after two parts
 abbrev pub afterTwo : List ℕ → ℕ → ℕ → ℕ
@@ -63,7 +56,7 @@ worked c n k a = record { wide = false; count = c; steps = n; room = k; next = a
 -- what a part p gives on the packets s, where it is not too wide: the array v; n is the place after it
 pub record Fine (p : Part) (s : Packets) (n : ℕ) (v : List ℕ) (r : Worked) : Type 0 where
   pub narrow : width p s ≤ mostPackets
-  pub held : Held v (r .count) (out p s)
+  pub held : Held places v (r .count) (out p s)
   pub steps : r .steps ≡ steps p s
   pub room : r .room ≡ room p s
   pub next : r .next ≡ n
@@ -81,7 +74,7 @@ pub record Small (r : Worked) : Type 0 where
 -- r tells of the array v of the packets s, the union or the pairing of what a and b gave, and goes on after b
 pub record Joins (s : Packets) (v : List ℕ) (a b r : Worked) : Type 0 where
   pub over : r .wide ≡ true → mostPackets < length s
-  pub held : r .wide ≡ false → Held v (r .count) s
+  pub held : r .wide ≡ false → Held places v (r .count) s
   pub steps : r .wide ≡ false → r .steps ≡ a .steps + b .steps + 2
   pub room : r .wide ≡ false → r .room ≡ 1 + (a .room + b .room)
   pub next : r .wide ≡ false → r .next ≡ b .next

@@ -1,24 +1,30 @@
 // The evaluator: one packet through a book (document 01, "Meaning", "Steps" and the numbers 8, 12, 9, 10).
-// evaluate_part and the functions of the codes call each other; all that they combine is done by functions outside that cycle.
+// evaluate_part and the functions of the codes call each other; all that they combine is done by functions outside that cycle. Each set is
+// a PacketSet by value; lent down the cycle is its array, with the number of its packets and their fields.
+use rows::MOST;
 use rules::Evaluated;
+use rules::Head;
 use rules::Outcome;
 use rules::Reason;
 use rules::Sizes;
 use rules::Verdict;
+use sets::PLACES;
+use sets::Values;
 ghost use mathlib.Core.Path.{_≡_};
 ghost use mathlib.Core.Bool.{true, false};
 ghost use mathlib.Core.List.{List, [], _∷_};
-ghost use Prim.Native.Nat.{ℕ, _+_, _<_, _≤_, max};
-ghost use lib.ListN.{getD, length, drop};
+ghost use Prim.Native.Nat.{ℕ, _≤_, max};
+ghost use lib.ListN.{length, take, drop};
 ghost use Rattle.rules.specs.declared.Verdict.the-variants.{Accepted};
-ghost use Rattle.rules.specs.Packets.{Packets, without, keep, lacks};
-ghost use Rattle.rules.specs.Parts.{Part, Drop, Not, Seq, Beside, Table, namesOpen};
-ghost use Rattle.rules.specs.Reading.{numberAt, after, useAt, partAt, mainOf, verdict};
+ghost use Rattle.rules.specs.Packets.{places, Packets, keep, lacks};
+ghost use Rattle.rules.specs.Parts.{Part, Drop, Test, Set, Not, Seq, Beside, Table, namesOpen};
+ghost use Rattle.rules.specs.Reading.{after, useAt, partAt, mainOf, verdict};
 ghost use Rattle.rules.specs.Working.{out};
 ghost use Rattle.rules.specs.Answers.{startSet};
 ghost use Rattle.rules.specs.Promises.{EvaluateAnswer};
-ghost use Rattle.rows.specs.Chunks.{chunks, rowAt, Packed, Held, Fits};
-ghost use Rattle.evaluator.specs.Work.{namedIn, partIn, testAt, setAt, notFrom, sumFrom, seqFrom, besideAt};
+ghost use Rattle.rows.specs.Chunks.{Packed, Held, Fits};
+ghost use Rattle.sets.specs.Whole.{packetsOf};
+ghost use Rattle.evaluator.specs.Work.{namedIn, partIn, notFrom, sumFrom, seqFrom, besideOf};
 ghost use Rattle.evaluator.specs.Work.{afterTwo, Fair, Fine, Did, Small, Joins, Sees, IsAccepted, Populated, worked};
 ghost use Rattle.evaluator.specs.Passing.{Passable, Passes, Weighs};
 
@@ -78,56 +84,44 @@ fn leaf(count: usize, steps: u64, next: usize) -> Worked
 }
 
 // Code 1.
-fn drop_of(v: &mut [u16; 128], n: usize, next: usize) -> Worked
-    requires { ⌜ Packed (now v) n ⌝ }
-    ensures { λ r. ⌜ Did Drop (chunks n (now (v .entry))) next (now (v .exit)) r ⌝ }
+fn drop_of(v: &mut Values, n: usize, next: usize) -> Worked
+    requires { ⌜ Packed places (now v) n ⌝ }
+    ensures { λ r. ⌜ Did Drop (packetsOf n (now (v .entry))) next (now (v .exit)) r ⌝ }
 {
-    rows::clear_rows(v, 0, n);
+    rows::clear_rows(v, 0, n, PLACES);
     leaf(0, 1, next)
 }
 
-// The two-byte number at a place, high byte first.
-fn number_at(book: &[u8], at: usize) -> u16
-    requires { ⌜ at < length (now book) + 2 ⌝ }
-    ensures { λ r. ⌜ r ≡ numberAt (now (book .entry)) at ⌝ }
+// Codes 2 and 3.
+fn test_of(f: u8, x: u16, v: &mut Values, n: usize, next: usize) -> Worked
+    requires { ⌜ Packed places (now v) n ⌝ }
+    ensures { λ r. ⌜ Did (Test f x) (packetsOf n (now (v .entry))) next (now (v .exit)) r ⌝ }
 {
-    (book::byte_at(book, at) as u16) * 256 + (book::byte_at(book, at + 1) as u16)
+    let some = sets::keep_in(v, n, f as usize, x, PLACES);
+    leaf(some, 1, next)
 }
 
-// Codes 2 and 3, their code at a place.
-fn test_at(book: &[u8], at: usize, v: &mut [u16; 128], n: usize) -> Worked
-    requires { ⌜ (at < length (now book)) × Packed (now v) n ⌝ }
-    ensures { λ r. ⌜ Did (testAt (now (book .entry)) at) (chunks n (now (v .entry))) (at + 4) (now (v .exit)) r ⌝ }
+fn set_of(f: u8, x: u16, v: &mut Values, n: usize, next: usize) -> Worked
+    requires { ⌜ Packed places (now v) n ⌝ }
+    ensures { λ r. ⌜ Did (Set f x) (packetsOf n (now (v .entry))) next (now (v .exit)) r ⌝ }
 {
-    let f = book::byte_at(book, at + 1) as usize;
-    let x = number_at(book, at + 2);
-    let some = sets::keep_in(v, n, f, x);
-    leaf(some, 1, at + 4)
-}
-
-fn set_at(book: &[u8], at: usize, v: &mut [u16; 128], n: usize) -> Worked
-    requires { ⌜ (at < length (now book)) × Packed (now v) n ⌝ }
-    ensures { λ r. ⌜ Did (setAt (now (book .entry)) at) (chunks n (now (v .entry))) (at + 4) (now (v .exit)) r ⌝ }
-{
-    let f = book::byte_at(book, at + 1) as usize;
-    let x = number_at(book, at + 2);
-    let changed = sets::set_in(v, n, f, x);
-    leaf(changed, 1, at + 4)
+    let changed = sets::set_in(v, n, f as usize, x, PLACES);
+    leaf(changed, 1, next)
 }
 
 // The packets of v that are not among the m of x: packet by packet, not by whether x has any.
-fn not_given(v: &mut [u16; 128], n: usize, x: &[u16; 128], m: usize) -> usize
-    requires { ⌜ Packed (now v) n × Packed (now x) m ⌝ }
-    ensures { λ r. ⌜ Held (now (v .exit)) r (keep (lacks (chunks m (now (x .entry)))) (chunks n (now (v .entry)))) ⌝ }
+fn not_given(v: &mut Values, n: usize, x: &Values, m: usize) -> usize
+    requires { ⌜ Packed places (now v) n × Packed places (now x) m ⌝ }
+    ensures { λ r. ⌜ Held places (now (v .exit)) r (keep (lacks (packetsOf m (now (x .entry)))) (packetsOf n (now (v .entry)))) ⌝ }
 {
-    sets::difference_in(v, n, x, m)
+    sets::difference_in(v, n, x, m, PLACES)
 }
 
 // The packets of v that a did not give, which are in x.
-fn not_of(v: &mut [u16; 128], n: usize, x: &[u16; 128], a: Worked) -> Worked
-    requires { ⌜ Packed (now v) n × Packed (now x) (a .count) × Small a ⌝ }
-    ensures { λ r. ⌜ ((p : Part) (k : ℕ) → Fine p (chunks n (now (v .entry))) k (now (x .entry)) a
-        → Did (Not p) (chunks n (now (v .entry))) k (now (v .exit)) r) ⌝ }
+fn not_of(v: &mut Values, n: usize, x: &Values, a: Worked) -> Worked
+    requires { ⌜ Packed places (now v) n × Packed places (now x) (a .count) × Small a ⌝ }
+    ensures { λ r. ⌜ ((p : Part) (k : ℕ) → Fine p (packetsOf n (now (v .entry))) k (now (x .entry)) a
+        → Did (Not p) (packetsOf n (now (v .entry))) k (now (v .exit)) r) ⌝ }
 {
     let m = a.count;
     let kept = not_given(v, n, x, m);
@@ -143,9 +137,9 @@ fn not_of(v: &mut [u16; 128], n: usize, x: &[u16; 128], a: Worked) -> Worked
 // The union or pairing of what a and b gave, so many packets, with the steps of both and 2, and the room of both and 1.
 fn joined(count: usize, a: Worked, b: Worked) -> Worked
     requires { ⌜ Small a × Small b ⌝ }
-    ensures { λ r. ⌜ ((s : Packets) (v : List ℕ) → Fits v count s → Joins s v a b r) ⌝ }
+    ensures { λ r. ⌜ ((s : Packets) (v : List ℕ) → Fits places v count s → Joins s v a b r) ⌝ }
 {
-    if 16 < count {
+    if MOST < count {
         return too_wide();
     }
     Worked {
@@ -193,24 +187,14 @@ fn table_of(a: Worked, next: usize) -> Worked
     }
 }
 
-// A concurrent part on no packet, its code at a place.
-fn none_at(book: &[u8], at: usize, depth: usize) -> Worked
-    requires { ⌜ at < length (now book) ⌝ }
-    ensures { λ r. ⌜ ((wp wq : ℕ) (p q : Part) (v : List ℕ) → Held v 0 []
-        → Did (Beside wp wq p q) [] (afterTwo (now (book .entry)) depth (at + 3)) v r) ⌝ }
+// A concurrent part on no packet, the parts below it from a place on.
+fn none_at(book: &[u8], from: usize, depth: usize) -> Worked
+    ensures { λ r. ⌜ ((wp wq : ℕ) (p q : Part) (v : List ℕ) → Held places v 0 []
+        → Did (Beside wp wq p q) [] (afterTwo (now (book .entry)) depth from) v r) ⌝ }
 {
-    let middle = book::place_after(book, at + 3, depth);
+    let middle = book::place_after(book, from, depth);
     let end = book::place_after(book, middle, depth);
     leaf(0, 1, end)
-}
-
-// Packet i of v alone, without the fields of w, put into an array of zeros.
-fn alone(v: &[u16; 128], i: usize, w: u8, x: &mut [u16; 128])
-    requires { ⌜ (i < 16) × (length (now v) ≡ 128) × Held (now x) 0 [] ⌝ }
-    ensures { λ _. ⌜ Held (now (x .exit)) 1 (without w (rowAt (now (v .entry)) i) ∷ []) ⌝ }
-{
-    let p = rows::bare(w, rows::row(v, i));
-    rows::put_row(x, 0, p);
 }
 
 // Code 4, the part below it at a place.
@@ -219,19 +203,22 @@ fn not_at(
     main: bool,
     from: usize,
     depth: usize,
-    v: &mut [u16; 128],
+    v: &mut Values,
     n: usize,
+    fields: u8,
 ) -> Worked
-    requires { ⌜ Fair (notFrom (now book) main depth from) × Packed (now v) n ⌝ }
+    requires { ⌜ Fair (notFrom (now book) main depth from) × Packed places (now v) n ⌝ }
     ensures { λ r. ⌜ Did (notFrom (now (book .entry)) main depth from)
-        (chunks n (now (v .entry))) (after (now (book .entry)) depth from) (now (v .exit)) r ⌝ }
+        (packetsOf n (now (v .entry))) (after (now (book .entry)) depth from) (now (v .exit)) r ⌝ }
 {
-    let mut x = *v;
-    let a = evaluate_part(book, main, from, depth, &mut x, n);
+    let mut x = sets::copy_of(v, n, fields);
+    let given = x.count;
+    let a = evaluate_part(book, main, from, depth, &mut x.values, given, fields);
     if a.wide {
         return a;
     }
-    not_of(v, n, &x, a)
+    x.count = a.count;
+    not_of(v, n, &x.values, a)
 }
 
 // Code 5, the parts below it from a place on.
@@ -240,26 +227,29 @@ fn sum_at(
     main: bool,
     from: usize,
     depth: usize,
-    v: &mut [u16; 128],
+    v: &mut Values,
     n: usize,
+    fields: u8,
 ) -> Worked
-    requires { ⌜ Fair (sumFrom (now book) main depth from) × Packed (now v) n ⌝ }
+    requires { ⌜ Fair (sumFrom (now book) main depth from) × Packed places (now v) n ⌝ }
     ensures { λ r. ⌜ Did (sumFrom (now (book .entry)) main depth from)
-        (chunks n (now (v .entry))) (afterTwo (now (book .entry)) depth from) (now (v .exit)) r ⌝ }
+        (packetsOf n (now (v .entry))) (afterTwo (now (book .entry)) depth from) (now (v .exit)) r ⌝ }
 {
-    let mut x = *v;
-    let a = evaluate_part(book, main, from, depth, v, n);
+    let mut x = sets::copy_of(v, n, fields);
+    let a = evaluate_part(book, main, from, depth, v, n, fields);
     if a.wide {
         return a;
     }
     let middle = a.next;
-    let b = evaluate_part(book, main, middle, depth, &mut x, n);
+    let given = x.count;
+    let b = evaluate_part(book, main, middle, depth, &mut x.values, given, fields);
     if b.wide {
         return b;
     }
+    x.count = b.count;
     let left = a.count;
-    let right = b.count;
-    let count = sets::union_in(v, left, &x, right);
+    let right = x.count;
+    let count = sets::union_in(v, left, &x.values, right, PLACES);
     joined(count, a, b)
 }
 
@@ -269,177 +259,204 @@ fn seq_at(
     main: bool,
     from: usize,
     depth: usize,
-    v: &mut [u16; 128],
+    v: &mut Values,
     n: usize,
+    fields: u8,
 ) -> Worked
-    requires { ⌜ Fair (seqFrom (now book) main depth from) × Packed (now v) n ⌝ }
+    requires { ⌜ Fair (seqFrom (now book) main depth from) × Packed places (now v) n ⌝ }
     ensures { λ r. ⌜ Did (seqFrom (now (book .entry)) main depth from)
-        (chunks n (now (v .entry))) (afterTwo (now (book .entry)) depth from) (now (v .exit)) r ⌝ }
+        (packetsOf n (now (v .entry))) (afterTwo (now (book .entry)) depth from) (now (v .exit)) r ⌝ }
 {
-    let a = evaluate_part(book, main, from, depth, v, n);
+    let a = evaluate_part(book, main, from, depth, v, n, fields);
     if a.wide {
         return a;
     }
     let middle = a.next;
     let given = a.count;
-    let b = evaluate_part(book, main, middle, depth, v, given);
+    let b = evaluate_part(book, main, middle, depth, v, given, fields);
     if b.wide {
         return b;
     }
     seq_of(a, b)
 }
 
-// Code 7, its code at a place, on packet i of v alone: each side without the fields that the other writes. Put into an array of zeros.
+// Code 7 by its head, on one packet, a row by itself: each side without the fields that the other writes. Put into zeros.
 fn one_packet(
     book: &[u8],
     main: bool,
-    at: usize,
+    h: Head,
     depth: usize,
-    v: &[u16; 128],
-    i: usize,
-    out: &mut [u16; 128],
+    p: &[u16],
+    out: &mut Values,
+    fields: u8,
 ) -> Worked
-    requires { ⌜ (at < length (now book)) × (i < 16) × (length (now v) ≡ 128)
-        × Held (now out) 0 [] × Fair (besideAt (now book) main depth at) ⌝ }
-    ensures { λ r. ⌜ Did (besideAt (now (book .entry)) main depth at)
-        (rowAt (now (v .entry)) i ∷ []) (afterTwo (now (book .entry)) depth (at + 3)) (now (out .exit)) r ⌝ }
+    requires { ⌜ (places ≤ length (now p)) × Held places (now out) 0 [] × Fair (besideOf (now book) main depth h) ⌝ }
+    ensures { λ r. ⌜ Did (besideOf (now (book .entry)) main depth h)
+        (take places (now (p .entry)) ∷ []) (afterTwo (now (book .entry)) depth (h .from)) (now (out .exit)) r ⌝ }
 {
-    let wp = book::byte_at(book, at + 1);
-    let wq = book::byte_at(book, at + 2);
-    let mut x = [0u16; 128];
-    alone(v, i, wq, &mut x);
-    let a = evaluate_part(book, main, at + 3, depth, &mut x, 1);
+    let mut x = sets::alone(p, h.right, fields);
+    let given = x.count;
+    let has = x.mask;
+    let a = evaluate_part(book, main, h.from, depth, &mut x.values, given, has);
     if a.wide {
         return a;
     }
+    x.count = a.count;
     let middle = a.next;
-    let mut y = [0u16; 128];
-    alone(v, i, wp, &mut y);
-    let b = evaluate_part(book, main, middle, depth, &mut y, 1);
+    let mut y = sets::alone(p, h.left, fields);
+    let given = y.count;
+    let has = y.mask;
+    let b = evaluate_part(book, main, middle, depth, &mut y.values, given, has);
     if b.wide {
         return b;
     }
-    let left = a.count;
-    let right = b.count;
-    let count = sets::pairs_into(out, &x, left, &y, right, wq);
+    y.count = b.count;
+    let left = x.count;
+    let right = y.count;
+    let count = sets::pairs_into(
+        out,
+        &x.values,
+        left,
+        &y.values,
+        right,
+        h.right as u16,
+        PLACES,
+    );
     joined(count, a, b)
 }
 
-// Code 7, its code at a place, on the n packets of v from number i on: one alone, or the lowest and the rest joined. Put into zeros.
+// Code 7 by its head, on the n packets of v from number i on: one alone, or the lowest and the rest joined. Put into zeros.
 fn walk_packets(
     book: &[u8],
     main: bool,
-    at: usize,
+    h: Head,
     depth: usize,
-    v: &[u16; 128],
+    v: &Values,
     n: usize,
     i: usize,
-    out: &mut [u16; 128],
+    out: &mut Values,
+    fields: u8,
 ) -> Worked
-    requires { ⌜ (at < length (now book)) × (i ≤ n) × Packed (now v) n × Held (now out) 0 [] × Fair (besideAt (now book) main depth at) ⌝ }
-    ensures { λ r. ⌜ Did (besideAt (now (book .entry)) main depth at) (drop i
-        (chunks n (now (v .entry)))) (afterTwo (now (book .entry)) depth (at + 3)) (now (out .exit)) r ⌝ }
+    requires { ⌜ (i ≤ n) × Packed places (now v) n × Held places (now out) 0 []
+        × Fair (besideOf (now book) main depth h) ⌝ }
+    ensures { λ r. ⌜ Did (besideOf (now (book .entry)) main depth h) (drop i
+        (packetsOf n (now (v .entry)))) (afterTwo (now (book .entry)) depth (h .from)) (now (out .exit)) r ⌝ }
 {
     if i == n {
-        return none_at(book, at, depth);
+        return none_at(book, h.from, depth);
     }
-    let a = one_packet(book, main, at, depth, v, i, out);
+    let p = rows::row(v, i, PLACES);
+    let a = one_packet(book, main, h, depth, &p, out, fields);
     if a.wide {
         return a;
     }
     if i + 1 == n {
         return a;
     }
-    let mut rest = [0u16; 128];
-    let b = walk_packets(book, main, at, depth, v, n, i + 1, &mut rest);
+    let mut rest = sets::empty(fields);
+    let b = walk_packets(book, main, h, depth, v, n, i + 1, &mut rest.values, fields);
     if b.wide {
         return b;
     }
+    rest.count = b.count;
     let left = a.count;
-    let right = b.count;
-    let count = sets::union_in(out, left, &rest, right);
+    let right = rest.count;
+    let count = sets::union_in(out, left, &rest.values, right, PLACES);
     joined(count, a, b)
 }
 
-// Code 7, its code at a place: packet by packet from a copy, into the array.
+// Code 7 by its head: one packet by itself, more packet by packet from a copy of the array, into the array.
 fn beside_at(
     book: &[u8],
     main: bool,
-    at: usize,
+    h: Head,
     depth: usize,
-    v: &mut [u16; 128],
+    v: &mut Values,
     n: usize,
+    fields: u8,
 ) -> Worked
-    requires { ⌜ (at < length (now book)) × Fair (besideAt (now book) main depth at) × Packed (now v) n ⌝ }
-    ensures { λ r. ⌜ Did (besideAt (now (book .entry)) main depth at)
-        (chunks n (now (v .entry))) (afterTwo (now (book .entry)) depth (at + 3)) (now (v .exit)) r ⌝ }
+    requires { ⌜ Fair (besideOf (now book) main depth h) × Packed places (now v) n ⌝ }
+    ensures { λ r. ⌜ Did (besideOf (now (book .entry)) main depth h)
+        (packetsOf n (now (v .entry))) (afterTwo (now (book .entry)) depth (h .from)) (now (v .exit)) r ⌝ }
 {
-    let x = *v;
-    rows::clear_rows(v, 0, n);
-    walk_packets(book, main, at, depth, &x, n, 0, v)
+    if n == 1 {
+        let p = rows::row(v, 0, PLACES);
+        rows::clear_rows(v, 0, n, PLACES);
+        return one_packet(book, main, h, depth, &p, v, fields);
+    }
+    let x = sets::copy_of(v, n, fields);
+    rows::clear_rows(v, 0, n, PLACES);
+    let given = x.count;
+    walk_packets(book, main, h, depth, &x.values, given, 0, v, fields)
 }
 
-// Code 8, its code at a place: the table's body in the main body, nothing in a table's.
-fn table_at(book: &[u8], main: bool, at: usize, v: &mut [u16; 128], n: usize) -> Worked
-    requires { ⌜ (at < length (now book)) × Fair (namedIn (now book) main (getD (now book) (at + 1) 0)) × Packed (now v) n ⌝ }
-    ensures { λ r. ⌜ Did (namedIn (now (book .entry)) main (getD (now (book .entry)) (at + 1) 0))
-        (chunks n (now (v .entry))) (at + 2) (now (v .exit)) r ⌝ }
+// Code 8, a use of table x: the table's body in the main body, nothing in a table's.
+fn table_at(
+    book: &[u8],
+    main: bool,
+    x: u8,
+    next: usize,
+    v: &mut Values,
+    n: usize,
+    fields: u8,
+) -> Worked
+    requires { ⌜ Fair (namedIn (now book) main x) × Packed places (now v) n ⌝ }
+    ensures { λ r. ⌜ Did (namedIn (now (book .entry)) main x) (packetsOf n (now (v .entry))) next (now (v .exit)) r ⌝ }
 {
     if main {
-        let start = book::body_start(book, book::byte_at(book, at + 1));
-        let a = evaluate_part(book, false, start, 32, v, n);
+        let start = book::body_start(book, x);
+        let a = evaluate_part(book, false, start, 32, v, n, fields);
         if a.wide {
             return a;
         }
-        table_of(a, at + 2)
+        table_of(a, next)
     } else {
-        leaf(n, 0, at + 2)
+        leaf(n, 0, next)
     }
 }
 
-// The part at a place, in the main body or in a table's, on the n packets of v. Past the end, and below the depth, stands id.
+// The part at a place, in the main body or in a table's, on the n packets of v, which have the fields. Past the end, and below the depth,
+// stands id.
 fn evaluate_part(
     book: &[u8],
     main: bool,
     at: usize,
     depth: usize,
-    v: &mut [u16; 128],
+    v: &mut Values,
     n: usize,
+    fields: u8,
 ) -> Worked
-    requires { ⌜ Fair (partIn (now book) main depth at) × Packed (now v) n ⌝ }
+    requires { ⌜ Fair (partIn (now book) main depth at) × Packed places (now v) n ⌝ }
     ensures { λ r. ⌜ Did (partIn (now (book .entry)) main depth at)
-        (chunks n (now (v .entry))) (after (now (book .entry)) depth at) (now (v .exit)) r ⌝ }
+        (packetsOf n (now (v .entry))) (after (now (book .entry)) depth at) (now (v .exit)) r ⌝ }
 {
     if depth == 0 {
         return leaf(n, 0, at);
     }
-    if book.len() <= at {
-        return leaf(n, 0, at);
-    }
-    let code = book[at];
+    let h = book::head_at(book, at);
+    let code = h.code;
     let below = depth - 1;
     match code {
-        1 => drop_of(v, n, at + 1),
-        2 => test_at(book, at, v, n),
-        3 => set_at(book, at, v, n),
-        4 => not_at(book, main, at + 1, below, v, n),
-        5 => sum_at(book, main, at + 1, below, v, n),
-        6 => seq_at(book, main, at + 1, below, v, n),
-        7 => beside_at(book, main, at, below, v, n),
-        8 => table_at(book, main, at, v, n),
-        _ => leaf(n, 0, at + 1),
+        1 => drop_of(v, n, h.from),
+        2 => test_of(h.field, h.value, v, n, h.from),
+        3 => set_of(h.field, h.value, v, n, h.from),
+        4 => not_at(book, main, h.from, below, v, n, fields),
+        5 => sum_at(book, main, h.from, below, v, n, fields),
+        6 => seq_at(book, main, h.from, below, v, n, fields),
+        7 => beside_at(book, main, h, below, v, n, fields),
+        8 => table_at(book, main, h.table, h.from, v, n, fields),
+        _ => leaf(n, 0, h.from),
     }
 }
 
-// A use of a table, its code at a place of the main body.
-fn look_table(book: &[u8], at: usize) -> Looked
-    requires { ⌜ at < length (now book) ⌝ }
-    ensures { λ r. ⌜ Sees (useAt (now (book .entry)) (getD (now (book .entry)) (at + 1) 0)) (at + 2) r ⌝ }
+// A use of table x in the main body, which ends before next.
+fn look_table(book: &[u8], x: u8, next: usize) -> Looked
+    ensures { λ r. ⌜ Sees (useAt (now (book .entry)) x) next r ⌝ }
 {
-    let size = book::length_of(book, book::byte_at(book, at + 1));
+    let size = book::length_of(book, x);
     Looked {
         found: size == 0,
-        next: at + 2,
+        next,
     }
 }
 
@@ -453,26 +470,19 @@ fn look_part(book: &[u8], at: usize, depth: usize) -> Looked
             next: at,
         };
     }
-    if book.len() <= at {
-        return Looked {
-            found: false,
-            next: at,
-        };
+    let h = book::head_at(book, at);
+    if h.code == 8 {
+        return look_table(book, h.table, h.from);
     }
-    let code = book[at];
-    if code == 8 {
-        return look_table(book, at);
-    }
-    let shape = rules::shape_of(code);
+    let shape = rules::shape_of(h.code);
     let parts = shape.parts;
-    let from = at + 1 + shape.operands;
     if parts == 0 {
         return Looked {
             found: false,
-            next: from,
+            next: h.from,
         };
     }
-    let a = look_part(book, from, depth - 1);
+    let a = look_part(book, h.from, depth - 1);
     if a.found {
         return a;
     }
@@ -511,16 +521,16 @@ fn names_open(book: &[u8]) -> bool
 }
 
 // The packet that comes in, put into an array of zeros.
-fn start_in(packet: &[u16], v: &mut [u16; 128])
-    requires { ⌜ (length (now packet) ≤ 8) × Held (now v) 0 [] ⌝ }
-    ensures { λ _. ⌜ Held (now (v .exit)) 1 (startSet (now (packet .entry))) ⌝ }
+fn start_in(packet: &[u16], v: &mut Values)
+    requires { ⌜ (length (now packet) ≤ places) × Held places (now v) 0 [] ⌝ }
+    ensures { λ _. ⌜ Held places (now (v .exit)) 1 (startSet (now (packet .entry))) ⌝ }
 {
-    rows::put_row(v, 0, rows::padded(packet));
+    rows::put_row(v, 0, &rows::padded(packet), PLACES);
 }
 
 // One packet through the main policy of an accepted book, in an array of zeros: the packets that it gives are left there.
-fn pass(book: &[u8], packet: &[u16], v: &mut [u16; 128]) -> Passage
-    requires { ⌜ Passable (now book) (now packet) × Held (now v) 0 [] ⌝ }
+fn pass(book: &[u8], packet: &[u16], v: &mut Values, fields: u8) -> Passage
+    requires { ⌜ Passable (now book) (now packet) × Held places (now v) 0 [] ⌝ }
     ensures { λ r. ⌜ Passes (now (book .entry)) (now (packet .entry)) r (now (v .exit)) ⌝ }
 {
     if names_open(book) {
@@ -528,7 +538,7 @@ fn pass(book: &[u8], packet: &[u16], v: &mut [u16; 128]) -> Passage
     }
     let start = book::body_start(book, 0);
     start_in(packet, v);
-    let w = evaluate_part(book, true, start, 32, v, 1);
+    let w = evaluate_part(book, true, start, 32, v, 1, fields);
     if w.wide {
         return Passage::Wide;
     }
@@ -544,8 +554,9 @@ pub fn weigh(book: &[u8], packet: &[u16]) -> Passage
     requires { ⌜ Passable (now book) (now packet) ⌝ }
     ensures { λ r. ⌜ Weighs (now (book .entry)) (now (packet .entry)) r ⌝ }
 {
-    let mut v = [0u16; 128];
-    pass(book, packet, &mut v)
+    let fields = sets::all_fields(packet.len());
+    let mut set = sets::empty(fields);
+    pass(book, packet, &mut set.values, fields)
 }
 
 // One packet through an accepted book: 8, 12, 9, 10 in this order, or the packets in the result.
@@ -557,17 +568,18 @@ fn evaluate_accepted(book: &[u8], packet: &[u16], result: &mut [u16], z: Sizes) 
     if packet.len() != k {
         return Evaluated::NotGiven(rules::no_place(Reason::PacketLength));
     }
-    if result.len() < 16 * k {
+    if result.len() < MOST * k {
         return Evaluated::NotGiven(rules::no_place(Reason::BufferLength));
     }
-    let mut v = [0u16; 128];
-    let passage = pass(book, packet, &mut v);
+    let fields = sets::all_fields(k);
+    let mut set = sets::empty(fields);
+    let passage = pass(book, packet, &mut set.values, fields);
     match passage {
         Passage::Open => Evaluated::NotGiven(rules::no_place(Reason::Unpopulated)),
         Passage::Wide => Evaluated::NotGiven(rules::no_place(Reason::TooWide)),
         Passage::Through(w) => {
             let count = w.count;
-            let written = rows::emit_rows(&v, count, k, result);
+            let written = rows::emit_rows(&set.values, count, k, PLACES, result);
             Evaluated::Given(Outcome {
                 count,
                 steps: w.steps,

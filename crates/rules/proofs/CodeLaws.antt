@@ -1,10 +1,8 @@
 -- What a code stands for: cases over the nine codes, and which part stands at a place, as its head builds it.
-use Prim.Native.Nat.{ℕ, zero, suc, _-_, _<_}
+use Prim.Native.Nat.{ℕ, zero, suc, _-_}
 use native.Mathlib.Numerals.{sub-one}
-use native.Mathlib.Omega.{arith}
 use mathlib.Core.Path.{_≡_, refl, subst}
 use mathlib.Core.Bool.{Bool, true, false, cond}
-use mathlib.Core.Logic.{_⊎_, ⊎-elim}
 use mathlib.Core.List.{List}
 use lib.Dec.{ltb}
 use lib.ListN.{length, getD, List·getD-eq-default}
@@ -63,24 +61,18 @@ module _ (s : List ℕ) (named : ℕ → Part) (d at : ℕ) (hd : d ≡ 0 → �
       subst (λ (x : ℕ). Stands s named d at (built h named x first second) (skip (partsOf x) (after s (d - 1)) (h .from))) e stands-head
 
   -- code 0 and the unknown codes
-  pub stands-plain : (c : ℕ) → h .code ≡ c → (c < 1) ⊎ (8 < c) → Stands s named d at Id (h .from)
+  pub stands-plain : (h .code ≡ 1 → ⊥) → (h .code ≡ 2 → ⊥) → (h .code ≡ 3 → ⊥) → (h .code ≡ 4 → ⊥) → (h .code ≡ 5 → ⊥)
+      → (h .code ≡ 6 → ⊥) → (h .code ≡ 7 → ⊥) → (h .code ≡ 8 → ⊥) → Stands s named d at Id (h .from)
   unfolding built
-  stands-plain c e = go c (stands-as c e)
+  stands-plain h1 h2 h3 h4 h5 h6 h7 h8 = go (h .code) refl stands-head
     where
-      go : (c : ℕ) → Stands s named d at (built h named c first second) (skip (partsOf c) (after s (d - 1)) (h .from))
-          → (c < 1) ⊎ (8 < c) → Stands s named d at Id (h .from)
+      go : (c : ℕ) → h .code ≡ c → Stands s named d at (built h named c first second) (skip (partsOf c) (after s (d - 1)) (h .from))
+          → Stands s named d at Id (h .from)
       go =
-          by-code (λ c. Stands s named d at (built h named c first second) (skip (partsOf c) (after s (d - 1)) (h .from))
-          → (c < 1) ⊎ (8 < c) → Stands s named d at Id (h .from))
-          (λ t k. t) (λ t. ⊎-elim (λ k. absurd (omega arith)) (λ k. absurd (omega arith)))
-          (λ t. ⊎-elim (λ k. absurd (omega arith)) (λ k. absurd (omega arith)))
-          (λ t. ⊎-elim (λ k. absurd (omega arith)) (λ k. absurd (omega arith)))
-          (λ t. ⊎-elim (λ k. absurd (omega arith)) (λ k. absurd (omega arith)))
-          (λ t. ⊎-elim (λ k. absurd (omega arith)) (λ k. absurd (omega arith)))
-          (λ t. ⊎-elim (λ k. absurd (omega arith)) (λ k. absurd (omega arith)))
-          (λ t. ⊎-elim (λ k. absurd (omega arith)) (λ k. absurd (omega arith)))
-          (λ t. ⊎-elim (λ k. absurd (omega arith)) (λ k. absurd (omega arith)))
-          (λ c t k. t)
+          by-code (λ c. h .code ≡ c → Stands s named d at (built h named c first second) (skip (partsOf c) (after s (d - 1)) (h .from))
+          → Stands s named d at Id (h .from))
+          (λ e t. t) (λ e t. absurd (h1 e)) (λ e t. absurd (h2 e)) (λ e t. absurd (h3 e)) (λ e t. absurd (h4 e)) (λ e t. absurd (h5 e))
+          (λ e t. absurd (h6 e)) (λ e t. absurd (h7 e)) (λ e t. absurd (h8 e)) (λ c e t. t)
 
 pub part-suc : (s : List ℕ) (named : ℕ → Part) (d at : ℕ) → (d ≡ 0 → ⊥)
     → partAt s named d at ≡ built (head s at) named (getD s at 0) (partAt s named (d - 1) (below s at))

@@ -1,6 +1,6 @@
 -- `drop_of` meets its contract.
 use borrow.Author.Needs.{needs}
-use Rattle.rows.proofs.Clearing.{cleared-packed}
+use Rattle.rows.proofs.Clearing.{cleared-all}
 use Rattle.evaluator.proofs.WorkLaws.{did-drop}
 use Rattle.evaluator.proofs.drop_of.Statement.{statement}
 use Rattle.evaluator.proofs.drop_of.Tie as tie
@@ -13,4 +13,4 @@ drop-of-spec =
     (λ c κs. search needs)
     (λ c.
     let s = c .before .before .before in
-    rw (c .leaf .ensures) (did-drop (s .pre) _ (rw (c .before .clear-rows .ensures) (cleared-packed (s .pre))))))
+    rw (c .leaf .ensures) (did-drop (s .pre) _ (cleared-all (c .before .clear-rows .ensures) (s .pre .room) (s .pre .zeros)))))

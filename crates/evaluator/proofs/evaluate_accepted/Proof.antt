@@ -1,8 +1,9 @@
 -- `evaluate_accepted` meets its contract: one law for each number, and for the packets. Assumes nothing.
 use borrow.Author.Needs.{needs}
 use native.Mathlib.Omega.{arith}
-use Rattle.rows.proofs.Fillings.{zeros-held}
-use Rattle.evaluator.proofs.Answering.{fields-some, passable, wrong-packet, wrong-buffer, unpopulated, too-wide, went-through, given-is}
+use Rattle.sets.proofs.Whole.{is-none}
+use Rattle.evaluator.proofs.Answering.{fields-some, passable, wrong-packet, wrong-buffer, unpopulated, too-wide}
+use Rattle.evaluator.proofs.Answering.{went-through, given-is}
 use Rattle.evaluator.proofs.evaluate_accepted.Statement.{statement}
 use Rattle.evaluator.proofs.evaluate_accepted.Tie as tie
 
@@ -19,38 +20,41 @@ returns-2 c =
 
 pass-requires : tie.Need-pass-requires
 pass-requires c κs =
-    let i = c .before .before in
+    let i = c .before .before .before .before in
     let s = i .before .before .before .before in
-    (passable _ _ _ (s .pre) (i .if1 .left), zeros-held)
+    (passable _ _ _ (s .pre) (i .if1 .left), is-none (c .before .empty .ensures))
 
 emit-rows-requires : tie.Need-emit-rows-requires
 emit-rows-requires c κs =
-    let p = c .before .before .before .before .before in
-    went-through _ _ _ _ (p .pass .ensures) _ (c .before .before .before .passage .given .1) .held .packed
+    let q = c .before .before .before .before .before in
+    let packed = went-through _ _ _ _ (q .before .before .pass .ensures) _ (q .passage .given .1) .held .packed in
+    (packed .room, packed .array)
 
 returns-3 : tie.Need-returns-3
 returns-3 c =
     let p = c .before .before .before in
-    let i = p .before .before .before in
+    let i = p .before .before .before .before .before in
     let s = i .before .before .before .before in
     rw (c .no-place3 .ensures)
-    (unpopulated _ _ _ _ (s .pre) (i .if1 .left) (p .before .before .if2 .left) _ _ (p .pass .ensures) (c .before .enum-told .given .1))
+    (unpopulated _ _ _ _ (s .pre) (i .if1 .left) (p .before .before .before .before .if2 .left) _ _ (p .pass .ensures)
+    (c .before .enum-told .given .1))
 
 returns-4 : tie.Need-returns-4
 returns-4 c =
     let p = c .before .before .before in
-    let i = p .before .before .before in
+    let i = p .before .before .before .before .before in
     let s = i .before .before .before .before in
     rw (c .no-place4 .ensures)
-    (too-wide _ _ _ _ (s .pre) (i .if1 .left) (p .before .before .if2 .left) _ _ (p .pass .ensures) (c .before .enum-told2 .given .1))
+    (too-wide _ _ _ _ (s .pre) (i .if1 .left) (p .before .before .before .before .if2 .left) _ _ (p .pass .ensures)
+    (c .before .enum-told2 .given .1))
 
 returns-5 : tie.Need-returns-5
 returns-5 c =
-    let q = c .before .before .before .before .before .before in
+    let q = c .before .before .before .before .before .before .before .before in
     let p = q .before .before in
-    let i = p .before .before .before in
+    let i = p .before .before .before .before .before in
     let s = i .before .before .before .before in
-    let space = p .before .before .if2 .left in
+    let space = p .before .before .before .before .if2 .left in
     let through = went-through _ _ _ _ (p .pass .ensures) _ (q .passage .given .1) in
     given-is _ _ _ _ (s .pre) (i .if1 .left) space _ _ through _ _ (c .before .before .emit-rows .ensures)
 
@@ -63,6 +67,8 @@ evaluate-accepted-spec =
     (λ c. omega (arith, fields-some _ _ (c .before .before .before .before .pre) .1))
     (λ c κs. search needs)
     returns-2
+    (λ c κs. fields-some _ _ (c .before .before .before .before .before .pre) .1)
+    (λ c κs. search needs)
     pass-requires
     (λ c. search needs)
     (λ c κs. search needs)

@@ -1,4 +1,4 @@
--- `none_at` meets its contract.
+-- `none_at` meets its contract. Assumes nothing.
 use borrow.Author.Needs.{needs}
 use mathlib.Core.Path.{ap, _∙_}
 use Rattle.rules.specs.Reading.{after}
@@ -10,7 +10,6 @@ pub none-at-spec : {M : Type 1} → statement M
 none-at-spec =
     tie.close
     (tie.spec
-    (λ c. search needs)
     (λ c κs. search needs)
     (λ c κs. search needs)
     (λ c κs. search needs)

@@ -1,6 +1,7 @@
 -- `start_in` meets its contract.
 use borrow.Author.Needs.{needs}
-use Rattle.rows.proofs.Fillings.{held-as, held-one}
+use lib.Seq.{take-all}
+use Rattle.rows.proofs.Holding.{held-as, held-one}
 use Rattle.evaluator.proofs.start_in.Statement.{statement}
 use Rattle.evaluator.proofs.start_in.Tie as tie
 
@@ -9,7 +10,9 @@ start-in-spec =
     tie.close
     (tie.spec
     (λ c κs. search needs)
+    (λ c. search needs)
     (λ c κs. search needs)
     (λ c.
-    let k = held-one {p = c .before .padded .result} (c .before .before .before .before .pre .1) (search needs) in
-    rw (c .put-row .ensures) (held-as k (rw (c .before .padded .ensures)))))
+    let p = c .before .before in
+    let k = held-one (p .before .before .before .pre .1) (c .put-row .ensures) in
+    held-as k (rw (take-all 8 (p .padded .result) (search needs), p .padded .ensures))))
