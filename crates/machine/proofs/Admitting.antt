@@ -19,7 +19,7 @@ use Rattle.rules.proofs.Whole.{FineBody, tableAt, entries-read}
 use Rattle.rules.proofs.AcceptedBooks.{accepted-readable, accepted-length, accepted-fields, accepted-right, accepted-tested}
 use Rattle.rules.proofs.AcceptedBooks.{accepted-written}
 use Rattle.rules.proofs.Stuck.{never-stuck}
-use Rattle.machine.specs.Shown.{partOf, Stands, Readable}
+use Rattle.steps.specs.Standing.{partOf, Stands, Readable}
 
 -- where code 8 may not stand, uses of tables do not matter, and none is unpopulated
 module _ (c : Scope) (m : c .main ≡ false) (n n′ : ℕ → Part) where

@@ -14,7 +14,7 @@ use Rattle.rules.specs.Packets.{Packets}
 use Rattle.rules.specs.Checks.{noPlace}
 use Rattle.rules.specs.Reading.{fieldsOf, bodyStart, sizesOf, verdict}
 use Rattle.rules.specs.States.{finish, run, made}
-use Rattle.rules.specs.Answers.{start, stopped, stopOf, ran, overwritten, resultRun, ranResult, areaRun, ranArea}
+use Rattle.rules.specs.Answers.{areaWords, start, stopped, stopOf, ran, overwritten, resultRun, ranResult, areaRun, ranArea}
 use Rattle.rules.specs.Books.{Bytes}
 use Rattle.rules.specs.Promises.{Granted, Admitted, RunAnswer}
 use Rattle.rules.proofs.AcceptedBooks.{accepted-sizes, accepted-fields}
@@ -25,9 +25,11 @@ use Rattle.evaluator.specs.declared.Passage.{Passage}
 use Rattle.evaluator.specs.declared.Passage.the-variants.{Open, Wide, Through}
 use Rattle.evaluator.specs.Passing.{Passable, Weighs}
 use Rattle.evaluator.proofs.Weighing.{weighs-open, weighs-wide, weighs-through}
-use Rattle.machine.specs.Shown.{Stands, Readable, Playable}
+use Rattle.steps.specs.Standing.{Stands, Readable}
+use Rattle.machine.specs.Runs.{Playable}
+use Rattle.area.specs.Words.{positions}
 use Rattle.machine.specs.Answered.{Weighed, wordsOf}
-use Rattle.machine.proofs.Reaching.{start-playable}
+use Rattle.machine.proofs.Fitting.{start-playable}
 use Rattle.machine.proofs.Admitting.{accepted-reads, accepted-stands, accepted-goes}
 
 -- k as an accepted book says it
@@ -70,11 +72,11 @@ module _ (book packet schedule result work : List ℕ) where
           turned-away _
           (ran-result book packet schedule (length result) (length work) z v words (rw (fields-are book z v .0) at l))
 
-      pub refused-area : length work < 21760
+      pub refused-area : length work < areaWords
           → RunAnswer book packet schedule result work (NotRun (noPlace BufferLength)) result work
       refused-area a = turned-away _ (ran-area book packet schedule (length result) (length work) z v words a)
 
-      module _ (l : 16 * z .fields ≤ length result) (a : 21760 ≤ length work) (r : Passage) (weighs : Weighs book packet r) where
+      module _ (l : 16 * z .fields ≤ length result) (a : areaWords ≤ length work) (r : Passage) (weighs : Weighs book packet r) where
         fits : 16 * fieldsOf book ≤ length result
         fits = rw (fields-are book z v .0) at l
 
@@ -104,7 +106,7 @@ module _ (book packet schedule result work : List ℕ) where
     granted : Granted book packet
     granted = w .granted
 
-    pub refused-positions : 160 < needs
+    pub refused-positions : positions < needs
         → RunAnswer book packet schedule result work (NotRun (noPlace Positions)) result work
     refused-positions h =
         turned-away _
@@ -113,7 +115,7 @@ module _ (book packet schedule result work : List ℕ) where
     pub few-words : length packet ≤ 8
     few-words = omega (arith, granted .words, fields-are book (granted .sizes) (granted .accepted))
 
-    module _ (small : Bytes book) (h : needs ≤ 160) where
+    module _ (small : Bytes book) (h : needs ≤ positions) where
       pub runs : Readable book × Stands book (bodyStart book 0) × Playable book (start book packet)
       runs =
           let b = accepted-reads book (granted .sizes) (granted .accepted) small in
@@ -128,7 +130,7 @@ module _ (book packet schedule result work : List ℕ) where
 
       -- the conducted run is the answer
       pub conducted : (r : Ran) (result′ work′ : List ℕ) → r ≡ stopOf book packet schedule
-          → result′ ≡ resultRun r (wordsOf book packet schedule) result → work′ ≡ overwritten (replicate 21760 0) work
+          → result′ ≡ resultRun r (wordsOf book packet schedule) result → work′ ≡ overwritten (replicate areaWords 0) work
           → RunAnswer book packet schedule result work r result′ work′
       unfolding ranResult ranArea
       conducted r result′ work′ er eo ea =
@@ -137,7 +139,7 @@ module _ (book packet schedule result work : List ℕ) where
           (ea ∙ stopped-area (finish (run (start book packet) schedule)) ∙ ap (λ (x : Ran). areaRun x work) (sym er ∙ s))
         where
           stopped-area : (fs : List Packets)
-              → overwritten (replicate 21760 0) work ≡ areaRun
+              → overwritten (replicate areaWords 0) work ≡ areaRun
               (stopped (made (start book packet) schedule) (run (start book packet) schedule) fs) work
           stopped-area [] = refl
           stopped-area (f ∷ fs) = refl

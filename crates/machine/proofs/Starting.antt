@@ -1,135 +1,163 @@
--- The area made ready and the main policy placed: the words hold the start of the run.
-use mathlib.Core.Path.{_≡_, refl, sym, ap, subst, _∙_}
-use mathlib.Core.Logic.{_⊎_, inl, inr, ∥∥₁-elim}
-use mathlib.Core.HLevel.{⊥-prop}
-use mathlib.Core.List.{List, [], _∷_, _++_, map, append-nil, List·Memᴰ, List·Memᴰ·cases-cons, List·Memᴰ·not-nil}
-use mathlib.Core.List.{List·Nodup, nodup-cons, nodup-nil}
-use Prim.Native.Nat.{ℕ, zero, suc, _-_, _≤_, _<_}
+-- The area made ready, and the main policy placed: the words hold the start of the run.
+use Prim.Native.Nat.{ℕ, zero, suc, _+_, _-_, _≤_, _<_}
 use native.Mathlib.Decide.{decLt}
 use native.Mathlib.Omega.{arith}
-use lib.ListN.{length, drop, set, length-set, drop-of-length-le}
-use lib.Seq.{drop-cons, drop-set-lt, getD-set-same}
+use mathlib.Core.Path.{_≡_, refl, sym, ap, _∙_}
+use mathlib.Core.Logic.{inl}
+use mathlib.Core.List.{List, [], _∷_, append-nil}
+use borrow.Author.Tests.{lt-ltb}
+use lib.ListN.{length, take, drop, length-take, drop-of-length-le}
 use Rattle.rules.specs.Masks.{allFields}
+use Rattle.rules.specs.Packets.{padded}
 use Rattle.rules.specs.Reading.{fieldsOf, bodyStart, mainOf}
-use Rattle.rules.specs.States.{run}
-use Rattle.rules.specs.Answers.{startSet, start}
-use Rattle.packets.specs.declared.PacketSet.{PacketSet}
-use Rattle.packets.specs.Rows.{rows, Is}
-use Rattle.machine.specs.Area.{heads, slots, Now, slotOf, Pos, here, all, order, Wf, Holds, marked, given, Becomes, Numbered}
-use Rattle.machine.specs.Shown.{Live, flat, partOf, state, Turns, Stands, Readable, placing, Standing, Playable, Held}
-use Rattle.machine.proofs.Blocks.{map-set}
-use Rattle.machine.proofs.Slots.{length-order}
-use Rattle.machine.proofs.Becoming.{one-begins, then-given, then-marked}
-use Rattle.machine.proofs.Turning.{turns-state}
-use Rattle.machine.proofs.Stepping.{length-state}
-use Rattle.machine.proofs.Below.{only-stands, only-turns}
+use Rattle.rules.specs.States.{place, run}
+use Rattle.rules.specs.Answers.{startSpot, startSet, start}
+use Rattle.rows.specs.Chunks.{chunks}
+use Rattle.steps.specs.Standing.{partOf, Stands, Readable}
+use Rattle.links.specs.Nets.{readyOf, plug, upOf, footIn, HeldIn, lefts, rights, news, same, times}
+use Rattle.links.proofs.Times.{same-self, same-other, times-append}
+use Rattle.links.proofs.Plugging.{held-kept}
+use Rattle.links.proofs.ReadyOnes.{ready-after, ready-few}
+use Rattle.area.specs.Words.{positions, readyFrom, freeFrom, areaWords, nobody, part, rowsAt, freeList, Given, Rowed, Listed}
+use Rattle.area.specs.Ready.{newsAt, Relisting}
+use Rattle.steps.specs.State.{below, Makes, Laying, Laid}
+use Rattle.area.proofs.Words.{part-out, past-out}
+use Rattle.steps.proofs.Changes.{below-small}
+use Rattle.steps.proofs.Making.{kept-by, one-offer}
+use Rattle.steps.proofs.News.{news-is, offer-small}
+use Rattle.steps.proofs.Rising.{listed-spares, listed-free}
+use Rattle.machine.specs.Runs.{Playable, Started}
+use Rattle.machine.specs.Answered.{Freed}
+use Rattle.machine.proofs.Positions.{place-live}
+use Rattle.machine.proofs.Playing.{beyond-then}
 
--- ---- every header has a slot of its own: n - 1, n - 2, .. 0
+-- ---- the numbers but 0 are free
 
-abbrev down : ℕ → List ℕ
-down zero = []
-down (suc n) = n ∷ down n
+below-is : (k : ℕ) → k < positions → below k ≡ 1
+unfolding below
+below-is k h = rw (lt-ltb k positions h)
 
-down-small : (n a : ℕ) → List·Memᴰ a (down n) → a < n
-down-small zero a m = absurd (List·Memᴰ·not-nil m)
-down-small (suc n) a m = go (List·Memᴰ·cases-cons m) (λ k. down-small n a k)
-  where
-    go : (a ≡ n) ⊎ List·Memᴰ a (down n) → (List·Memᴰ a (down n) → a < n) → a < suc n
-    go (inl e) f = omega arith
-    go (inr k) f = omega (arith, f k)
+pub freeing-starts : (w : List ℕ) → Freed w w 0
+unfolding part times
+freeing-starts w = record { once = λ k. omega arith; high = λ k h. refl; beyond = record { past = refl; long = refl } }
 
-down-once : (n : ℕ) → List·Nodup (down n)
-down-once zero = nodup-nil
-down-once (suc n) = nodup-cons .1 (λ m. ∥∥₁-elim m ⊥-prop (λ k. omega (arith, down-small n n k)), down-once n)
+module _ (w v u : List ℕ) (n : ℕ) (l : n < (positions - 1)) (f : Freed w v n) (g : Given v u n (positions - 1 - n)) where
+  given-times : (k : ℕ) → times k (freeList u (n + 1)) ≡ times k (freeList v n) + same k (positions - 1 - n)
+  unfolding times
+  given-times k = ap (times k) (g .here) ∙ times-append k (freeList v n) ((positions - 1 - n) ∷ []) ∙ omega arith
 
-down-sound : (n : ℕ) → n ≤ 160 → Wf (down n)
-down-sound n h = record {
-  once = down-once n;
-  small = λ a m. elim (decLt a 160) [ yes l ↦ l | no l ↦ absurd (∥∥₁-elim m ⊥-prop (λ k. omega (arith, down-small n a k))) ];
-}
+  lower : (k : ℕ) → k < positions - 1 - n → times k (freeList u (n + 1)) ≡ 0
+  lower k h = omega (arith, given-times k, f .high k (omega arith), same-other k (positions - 1 - n) (λ e. omega arith))
 
--- the headers from i on are numbered
-pub record Numbering (w v : List ℕ) (i : ℕ) : Type 0 where
-  pub low : i ≤ 160
-  pub tail : drop i (order v) ≡ down (160 - i)
-  pub area : 21760 ≤ length v
-  pub kept : drop 21760 v ≡ drop 21760 w
-  pub long : length v ≡ length w
+  once : (k : ℕ) → times k (freeList u (n + 1)) ≤ below k
+  once k =
+      elim (decLt k (positions - 1 - n)) [
+        | yes h ↦ omega (arith, lower k h)
+        | no h ↦
+            elim (decLt (positions - 1 - n) k) [
+              | yes g ↦ omega (arith, given-times k, f .once k, same-other k (positions - 1 - n) (λ e. omega arith))
+              | no g ↦
+                  let e : k ≡ positions - 1 - n = omega arith in
+                  let d : same k (positions - 1 - n) ≡ 1 = rw e (same-self (positions - 1 - n)) in
+                  omega (arith, given-times k, f .high k (omega arith), below-is k (omega arith))
+            ]
+      ]
 
-pub numbering-starts : (w : List ℕ) → 21760 ≤ length w → Numbering w w 160
-numbering-starts w l = record {
-  low = omega arith;
-  tail = let e : length (order w) ≡ 160 = length-order w in drop-of-length-le (order w) {i = 160} (omega arith);
-  area = l;
-  kept = refl;
-  long = refl;
-}
+  pub freeing-turns : Freed w u (n + 1)
+  freeing-turns = record {
+    once = once;
+    high = λ k h. lower k (omega arith);
+    beyond = beyond-then (f .beyond) (record { past = past-out (g .out) areaWords (omega arith); long = g .out .long });
+  }
 
-pub numbering-turns : (w v u : List ℕ) (i j : ℕ) (h : List ℕ) → Numbering w v i → i ≡ suc j → slotOf h ≡ 159 - j
-    → Now v u (set (heads v) j h) (slots v) → Numbering w u j
-unfolding order
-numbering-turns w v u i j h n e s k =
-    let O : List ℕ = map slotOf (heads v) in
-    let lo : length O ≡ 160 = length-order v in
-    let low : i ≤ 160 = n .low in
-    let o : map slotOf (heads u) ≡ set O j (159 - j) = ap (map slotOf) (k .heads) ∙ map-set slotOf (heads v) j h ∙ ap (set O j) s in
-    let z : 160 - j ≡ suc (159 - j) = omega arith in
-    let y : 160 - i ≡ 159 - j = omega arith in
-    let ls : length (set O j (159 - j)) ≡ 160 = length-set O j (159 - j) ∙ lo in
-    record {
-      low = omega arith;
-      tail =
-          ap (drop j) o ∙ drop-cons (set O j (159 - j)) j 0 (omega arith)
-          ∙ ap (λ (x : ℕ). x ∷ drop (suc j) (set O j (159 - j))) (getD-set-same O j (159 - j) 0 (omega arith))
-          ∙ ap (λ (l : List ℕ). (159 - j) ∷ l) (drop-set-lt (suc j) O j (159 - j) (omega arith) ∙ ap (λ (x : ℕ). drop x O) (sym e)
-          ∙ n .tail ∙ ap down y)
-          ∙ ap down (sym z);
-      area = omega (arith, n .area, k .long);
-      kept = k .kept ∙ n .kept;
-      long = k .long ∙ n .long;
+pub freed-all : {w v : List ℕ} {n : ℕ} → n ≡ (positions - 1) → Freed w v n → Freed w v (positions - 1)
+freed-all e f = rw e at f
+
+-- ---- the main policy is placed at number 0
+
+module _ (s packet w v₁ v₂ : List ℕ) (b : Readable s) (st : Stands s (bodyStart s 0)) (pl : Playable s (start s packet))
+    (area : areaWords ≤ length w) (F : Freed w v₁ (positions - 1)) (R : Rowed v₁ v₂ 0 0 (padded packet)) where
+  rows-there : rowsAt v₂ 0 1 ≡ startSet packet
+  unfolding chunks
+  rows-there = R .here
+
+  free-kept : freeList v₂ (positions - 1) ≡ freeList v₁ (positions - 1)
+  free-kept = part-out (R .out) freeFrom (positions - 1) (inl (omega arith))
+
+  once-root : (k : ℕ) → times k (0 ∷ []) + times k (freeList v₂ (positions - 1)) ≤ below k
+  unfolding times
+  once-root zero = rw free-kept (omega (arith, F .high 0 (omega arith), same-self 0, below-is 0 (omega arith)))
+  once-root (suc k) = rw free-kept (omega (arith, F .once (suc k), same-other (suc k) 0 (λ e. omega arith)))
+
+  main-is : (f : ℕ) → place (record { at = bodyStart s 0; fields = f }) (partOf s (bodyStart s 0)) (rowsAt v₂ 0 1)
+      ≡ place (record { at = bodyStart s 0; fields = f }) (mainOf s) (startSet packet)
+  unfolding mainOf partOf
+  main-is f = rw rows-there
+
+  pub start-lays : Laying s v₂ (positions - 1) 0 (bodyStart s 0) 0 1
+  unfolding start run
+  start-lays = record {
+    stands = st;
+    short = b .short;
+    there = omega arith;
+    few = omega arith;
+    once = once-root;
+    room = rw (main-is 0)
+        (omega (arith, pl [] .1, place-live (mainOf s) (record { at = bodyStart s 0; fields = 0 }) (startSpot s) (startSet packet)));
+    source = omega arith;
+    slim = omega arith;
+    area = omega (arith, area, F .beyond .long, R .out .long);
+  }
+
+  module _ (v₃ : List ℕ) (m r : ℕ) (L : (f : ℕ) → Laid s v₂ v₃ (positions - 1) m 0 nobody (bodyStart s 0) 0 1 r f) where
+    abbrev M : Makes s v₂ v₃ (positions - 1) m (0 ∷ []) nobody 0 (place (startSpot s) (partOf s (bodyStart s 0)) (rowsAt v₂ 0 1))
+    M = L (allFields (fieldsOf s)) .makes
+
+    -- the ready numbers of the start
+    news-are : newsAt v₃ nobody r nobody ≡ readyOf (M .net)
+    unfolding HeldIn upOf plug lefts rights footIn times
+    news-are =
+        news-is s v₃ [] (M .net) r nobody (one-offer (L (allFields (fieldsOf s)) .offer)) (M .held) tt (λ k h. absurd (omega arith))
+        ∙ sym (ready-after [] (M .net) ∙ append-nil (news [] (M .net)))
+
+    few : length (newsAt v₃ nobody r nobody) ≤ positions
+    few = rw news-are (omega (arith, ready-few (M .net), M .size))
+
+    pub start-relists : Relisting v₃ 1 0 nobody r nobody
+    start-relists = record {
+      there = omega arith;
+      few = omega arith;
+      room = omega (arith, few);
+      above = record {
+        small = omega arith;
+        below = λ l. absurd (omega arith);
+        area = omega (arith, area, F .beyond .long, R .out .long, M .else .long);
+      };
+      first = offer-small (one-offer (L (allFields (fieldsOf s)) .offer)) .0;
+      second = omega arith;
     }
 
-pub numbering-ends : (w v : List ℕ) (i : ℕ) → Numbering w v i → i ≡ 0 → Numbered w v
-numbering-ends w v i n e =
-    let o : order v ≡ down 160 = ap (λ (x : ℕ). drop x (order v)) (sym e) ∙ n .tail ∙ ap (λ (x : ℕ). down (160 - x)) e in
-    record { sound = subst Wf (sym o) (down-sound 160 (omega arith)); kept = n .kept; long = n .long }
-
--- ---- the main policy placed
-
-module _ (s packet w v₀ v₁ v₂ : List ℕ) (at mask : ℕ) (S : PacketSet) (b : Readable s) (st : Stands s (bodyStart s 0))
-    (pl : Playable s (start s packet))
-    (area : 21760 ≤ length w) (n : Numbered w v₀) (ea : at ≡ bodyStart s 0) (em : mask ≡ allFields (fieldsOf s)) (m : ℕ)
-    (iS : Is S m (startSet packet))
-    (n₁ : Holds v₀ v₁ (set (all v₀) 0 (given (here v₀ 0) (rows S))))
-    (n₂ : Holds v₁ v₂ (set (all v₁) 0 (marked (here v₁ 0) at 0 mask))) where
-  abbrev startY : Pos
-  startY = marked (given (here v₀ 0) (startSet packet)) (bodyStart s 0) 0 (allFields (fieldsOf s))
-
-  start-there : Becomes v₀ v₂ 1 1 0 1 (startY ∷ [])
-  start-there =
-      let c₁ = then-given (one-begins v₀ 1 0 (omega arith) (n .sound) (omega arith)) v₁ 0 0 (here v₀ 0) (rows S) refl (omega arith) n₁ in
-      rw (iS .same, ea, em) at (then-marked c₁ v₂ 0 0 (here v₀ 0) at 0 mask refl (omega arith) n₂)
-
-  start-flat : flat (placing s startY) ≡ flat (start s packet)
-  unfolding marked given start mainOf partOf
-  start-flat = refl
-
-  pub start-stands : Standing s v₂ 1 0 (placing s (here v₂ 0))
-  unfolding marked run
-  start-stands =
-      only-stands s start-there (omega (arith, area, n .long)) (b .short) (omega (arith, ap length start-flat, pl [] .1)) (omega arith)
-      (omega arith) refl st
-
-  pub started : (u : List ℕ) (r : ℕ) → Turns s v₂ u 1 r 0 1 (flat (placing s (here v₂ 0))) → Held s w u r (start s packet)
-  started u r t =
-      let k = only-turns s start-there u r t in
-      let l : length (state s v₀ 1) ≡ 1 = length-state s v₀ 1 (omega arith) in
-      let d : drop 1 (state s v₀ 1) ≡ [] = drop-of-length-le (state s v₀ 1) {i = 1} (omega arith) in
-      record {
-        state = turns-state k ∙ ap (λ (x : List Live). flat (placing s startY) ++ x) d ∙ append-nil (flat (placing s startY)) ∙ start-flat;
-        few = k .becomes .room;
-        area = omega (arith, area, n .long, k .becomes .long);
-        sound = k .becomes .sound;
-        kept = k .becomes .kept ∙ n .kept;
-        long = k .becomes .long ∙ n .long;
-      }
+    pub started : (u : List ℕ) (k : ℕ) → Listed v₃ u 1 0 (newsAt v₃ nobody r nobody) → k ≡ 1 - 1 + length (newsAt v₃ nobody r nobody)
+        → Started s w u m k (start s packet)
+    unfolding part start times
+    started u k N ek =
+        let d : drop 1 (take 1 (drop readyFrom v₃)) ≡ [] =
+        drop-of-length-le (take 1 (drop readyFrom v₃)) {i = 1} (omega (arith, length-take 1 (drop readyFrom v₃))) in
+        record {
+          holds = record {
+            net = M .net;
+            bare = M .bare ∙ main-is (allFields (fieldsOf s));
+            root = M .root;
+            held = held-kept nobody (M .net)
+                (kept-by (listed-spares N) (λ k h. (refl, below-small k (omega (arith, M .count k, once-root k))))) (M .held);
+            once = λ k. omega (arith, M .count k, once-root k, ap (times k) (listed-free N m));
+            size = omega (arith, M .size);
+            ready = rw ek (N .here ∙ rw d (append-nil (newsAt v₃ nobody r nobody) ∙ news-are));
+            few = omega (arith, few);
+            area = omega (arith, area, F .beyond .long, R .out .long, M .else .long, N .out .long);
+          };
+          beyond = record {
+            past = past-out (N .out) areaWords (omega arith) ∙ M .else .past ∙ past-out (R .out) areaWords (omega arith) ∙ F .beyond .past;
+            long = N .out .long ∙ M .else .long ∙ R .out .long ∙ F .beyond .long;
+          };
+        }

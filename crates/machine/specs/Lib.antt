@@ -1,6 +1,4 @@
--- What the machine's contracts say: the working area as positions, and the positions as a state of the rules.
-pub mod Area
-pub mod Ready
-pub mod Shown
-pub mod Made
+-- What the machine's contracts say: a step, a choice, a run, and what lies between the parts of a run.
+pub mod Steps
+pub mod Runs
 pub mod Answered

@@ -2,7 +2,8 @@
 use borrow.Author.Needs.{needs}
 use denote.Ref.{now}
 use native.Mathlib.Omega.{arith}
-use Rattle.machine.proofs.Running.{fields-are, passable, refused-packet, refused-result, refused-area, refused-open, refused-wide, weighed}
+use Rattle.machine.proofs.Running.{fields-are, passable, refused-packet, refused-result, refused-area, refused-open}
+use Rattle.machine.proofs.Running.{refused-wide, weighed}
 use Rattle.machine.proofs.run_accepted.Statement.{statement}
 use Rattle.machine.proofs.run_accepted.Tie as tie
 
