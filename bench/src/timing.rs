@@ -1,55 +1,70 @@
-//! Two calls timed in turn, batch by batch: what disturbs the machine disturbs both.
+//! Calls of both programs timed in turn, batch by batch: what disturbs the machine disturbs all of them.
 
+use crate::books::Case;
+use crate::programs::{Caller, OURS, PLAIN};
 use std::time::Instant;
 
-/// Nanoseconds a call, the least of all rounds, and their ratio.
+/// A batch takes about this long.
+const BATCH_NANOSECONDS: f64 = 1e5;
+
+pub type Call = fn(&mut Caller, &Case);
+
+/// Nanoseconds of ours and of the plain program.
+pub type Pair = (f64, f64);
+
+/// The least time of each program, and three quartiles of the rounds' ratios.
 pub struct Times {
-    pub ours: f64,
-    pub theirs: f64,
-    /// The middle one of the rounds' ratios.
-    pub ratio: f64,
-    /// Half of the rounds' ratios lie between these two.
-    pub half: Option<(f64, f64)>,
+    pub least: Pair,
+    pub quartiles: [f64; 3],
 }
 
 impl Times {
-    /// What is left of a call without the part that was timed by itself.
-    pub fn without(&self, part: &Times) -> Times {
-        let (ours, theirs) = (self.ours - part.ours, self.theirs - part.theirs);
-        Times { ours, theirs, ratio: ours / theirs, half: None }
+    pub fn of(pairs: impl Iterator<Item = Pair> + Clone) -> Times {
+        let mut ratios: Vec<f64> = pairs.clone().map(|(ours, plain)| ours / plain).collect();
+        ratios.sort_by(f64::total_cmp);
+        let least = |a: Pair, b: Pair| (a.0.min(b.0), a.1.min(b.1));
+        let last = ratios.len() - 1;
+        Times {
+            least: pairs.fold((f64::INFINITY, f64::INFINITY), least),
+            quartiles: [ratios[last / 4], ratios[last / 2], ratios[last - last / 4]],
+        }
     }
 }
 
-/// A batch takes about this long.
-const BATCH_NANOSECONDS: f64 = 2e5;
-
-pub fn compare(rounds: usize, mut ours: impl FnMut(), mut theirs: impl FnMut()) -> Times {
-    let (our_calls, their_calls) = (calls_a_batch(&mut ours), calls_a_batch(&mut theirs));
-    let times: Vec<(f64, f64)> = (0..rounds)
-        .map(|_| (nanoseconds(&mut ours, our_calls), nanoseconds(&mut theirs, their_calls)))
-        .collect();
-    let mut ratios: Vec<f64> = times.iter().map(|(a, b)| a / b).collect();
-    ratios.sort_by(f64::total_cmp);
-    let least = |of: fn(&(f64, f64)) -> f64| times.iter().map(of).fold(f64::INFINITY, f64::min);
-    Times {
-        ours: least(|t| t.0),
-        theirs: least(|t| t.1),
-        ratio: ratios[rounds / 2],
-        half: Some((ratios[rounds / 4], ratios[rounds - 1 - rounds / 4])),
-    }
+/// For each round the times of each call by both programs, one call on every case after the other.
+pub fn timed(rounds: usize, cases: &[Case], calls: &[Call]) -> Vec<Vec<Pair>> {
+    let mut callers = [OURS, PLAIN].map(Caller::new);
+    let mut job = |i: usize| {
+        let caller = &mut callers[i % 2];
+        cases.iter().for_each(|case| calls[i / 2](caller, case));
+    };
+    let jobs = 2 * calls.len();
+    let batches: Vec<u64> = (0..jobs).map(|i| calls_a_batch(|| job(i))).collect();
+    let mut round = |number: usize| {
+        let mut times = vec![0.0; jobs];
+        for turn in 0..jobs {
+            // every job comes first in its turn
+            let i = (turn + number) % jobs;
+            times[i] = nanoseconds(|| job(i), batches[i]);
+        }
+        times.chunks(2).map(|pair| (pair[0], pair[1])).collect()
+    };
+    (0..rounds).map(&mut round).collect()
 }
 
-/// One call of each, for calls that take seconds.
-pub fn once(mut ours: impl FnMut(), mut theirs: impl FnMut()) -> Times {
-    let (ours, theirs) = (nanoseconds(&mut ours, 1), nanoseconds(&mut theirs, 1));
-    Times { ours, theirs, ratio: ours / theirs, half: None }
+/// One call by each, for calls that take long; both must leave the same words.
+pub fn once(case: &Case, call: Call) -> Times {
+    let mut callers = [OURS, PLAIN].map(Caller::new);
+    let [ours, plain] = [0, 1].map(|i| nanoseconds(|| call(&mut callers[i], case), 1));
+    assert_eq!(callers[0].result, callers[1].result, "{}: the programs differ", case.name);
+    Times::of(std::iter::once((ours, plain)))
 }
 
 /// Twice as many calls until they take long enough to say how many a batch has.
-fn calls_a_batch(call: &mut impl FnMut()) -> u64 {
+fn calls_a_batch(mut call: impl FnMut()) -> u64 {
     let mut calls = 1;
     loop {
-        let each = nanoseconds(call, calls);
+        let each = nanoseconds(&mut call, calls);
         if each * calls as f64 > BATCH_NANOSECONDS / 4.0 {
             return (BATCH_NANOSECONDS / each) as u64 + 1;
         }
@@ -57,7 +72,7 @@ fn calls_a_batch(call: &mut impl FnMut()) -> u64 {
     }
 }
 
-fn nanoseconds(call: &mut impl FnMut(), calls: u64) -> f64 {
+fn nanoseconds(mut call: impl FnMut(), calls: u64) -> f64 {
     let start = Instant::now();
     for _ in 0..calls {
         call();

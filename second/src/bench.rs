@@ -1,5 +1,4 @@
-//! Times of accept, evaluate and run. The cases and the way of measuring are open to others, so that a
-//! joint benchmark can put two programs side by side.
+//! Times of accept, evaluate and run; and the books of the hostile and the heavy rows of `bench/`.
 
 use crate::answers::*;
 use crate::generate::steps_of;
