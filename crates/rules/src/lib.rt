@@ -104,61 +104,27 @@ pub enum Ran {
     NotRun(Refusal),
 }
 
-// The nine codes: id, drop, test, set, not, sum, sequence, beside, table.
-const SHAPES: [Shape; 9] = [
-    Shape {
-        operands: 0,
-        parts: 0,
-    },
-    Shape {
-        operands: 0,
-        parts: 0,
-    },
-    Shape {
-        operands: 3,
-        parts: 0,
-    },
-    Shape {
-        operands: 3,
-        parts: 0,
-    },
-    Shape {
-        operands: 0,
-        parts: 1,
-    },
-    Shape {
-        operands: 0,
-        parts: 2,
-    },
-    Shape {
-        operands: 0,
-        parts: 2,
-    },
-    Shape {
-        operands: 2,
-        parts: 2,
-    },
-    Shape {
-        operands: 1,
-        parts: 0,
-    },
-];
+// The one table of the nine codes (id, drop, test, set, not, sum, sequence, beside, table): operand bytes and parts, four bits for each
+// code from the lowest up. An array that is indexed by a number known only at run time would be laid out on the stack at each look.
+const OPERANDS: u64 = 3 * 256 + 3 * 4096 + 2 * 268435456 + 4294967296;
 
-// A code's row of the table; that of id for an unknown code. Each arm names its row: an index that is known when the code is compiled
-// costs no copy of the table.
+const PARTS: u64 = 65536 + 2 * 1048576 + 2 * 16777216 + 2 * 268435456;
+
+// A code's row of the table; that of id for an unknown code.
 pub fn shape_of(code: u8) -> Shape
     ensures { λ r. ⌜ r ≡ shapeAt code ⌝ }
 {
-    match code {
-        1 => SHAPES[1],
-        2 => SHAPES[2],
-        3 => SHAPES[3],
-        4 => SHAPES[4],
-        5 => SHAPES[5],
-        6 => SHAPES[6],
-        7 => SHAPES[7],
-        8 => SHAPES[8],
-        _ => SHAPES[0],
+    if code < 9 {
+        let at = 4 * code;
+        Shape {
+            operands: ((OPERANDS >> at) % 16) as usize,
+            parts: ((PARTS >> at) % 16) as usize,
+        }
+    } else {
+        Shape {
+            operands: 0,
+            parts: 0,
+        }
     }
 }
 
