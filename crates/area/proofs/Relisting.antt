@@ -19,7 +19,8 @@ done-read w i = refl
 pub risen-small : {w : List ℕ} {up b : ℕ} → Above w up → b ≡ risenAt w up → b ≤ nobody
 unfolding risenAt
 risen-small {w} {up} h e =
-    rw e (three (eqb up nobody) (ltb (headerAt w up .phase) enteredPhase) (doneAt w (headerAt w up .left)) (doneAt w (headerAt w up .right)))
+    rw e
+    (three (eqb up nobody) (ltb (headerAt w up .phase) enteredPhase) (doneAt w (headerAt w up .left)) (doneAt w (headerAt w up .right)))
   where
     three : (a b c d : Bool) → cond a nobody (cond b up (cond c (cond d up nobody) nobody)) ≤ nobody
     three true b c d = omega arith

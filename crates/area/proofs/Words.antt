@@ -11,7 +11,8 @@ use lib.Seq.{paste, sets, length-sets, getD-set-same, getD-set-other, getD-take,
 use lib.Seq.{drop-set-add}
 use Rattle.area.proofs.Moves.{getD-paste-before, getD-paste-after}
 use Rattle.area.specs.declared.headers.Header.{Header}
-use Rattle.area.specs.Words.{positions, headWords, slotWords, freeFrom, slotFrom, areaWords, headerAt, part, freeList, Outside, Headed}
+use Rattle.area.specs.Words.{positions, headWords, slotWords, freeFrom, slotFrom, areaWords, headerAt, part, freeList, Outside}
+use Rattle.area.specs.Words.{Headed}
 use Rattle.area.specs.Words.{Given}
 
 -- ---- writes

@@ -9,13 +9,13 @@ use Rattle.rules.specs.declared.Head.{Head}
 use Rattle.rules.specs.Parts.{Part, Id, Drop, Test, Set, Table, namesOpen}
 use Rattle.rules.specs.Books.{useOf, noUse, mostDepth}
 use Rattle.rules.specs.Reading.{after, headAt, built, partAt, bodyAt, useAt, lengthAt, readsAt, writesAt, bodyStart}
-use Rattle.rules.proofs.CodeLaws.{Stands, stands-as}
+use Rattle.rules.proofs.CodeLaws.{PartThere, stands-as}
 use Rattle.evaluator.specs.Work.{namedIn, partIn, notFrom, sumFrom, seqFrom, besideOf, afterTwo}
 use Rattle.evaluator.proofs.WorkLaws.{no}
 
 module _ (s : List ℕ) (main : Bool) (d at : ℕ) (hd : d ≡ 0 → ⊥) (h : Head) (eh : h ≡ headAt s at) where
   abbrev At : Part → ℕ → Type 0
-  At p n = Stands s (namedIn s main) d at p n
+  At p n = PartThere s (namedIn s main) d at p n
 
   pub stands-drop : h .code ≡ 1 → At Drop (h .from)
   unfolding built

@@ -16,10 +16,10 @@ use Rattle.sets.specs.Whole.{packetsOf, packetAt}
 use Rattle.sets.proofs.Rows.{slice-at, slice-end}
 use Rattle.rows.proofs.Chunks.{length-rows}
 use Rattle.rows.proofs.Holding.{length-packets, held-few}
-use Rattle.evaluator.specs.Work.{Fair, Fine, Did, Small, Joins}
+use Rattle.evaluator.specs.Work.{Fair, NotWide, Did, Small, Joins}
 use Rattle.evaluator.specs.declared.Worked.{Worked}
 use Rattle.evaluator.proofs.WorkLaws.{no, did-over}
-use Rattle.rules.proofs.CodeLaws.{Stands}
+use Rattle.rules.proofs.CodeLaws.{PartThere}
 
 -- ---- down
 
@@ -85,7 +85,7 @@ pub down-table : {p q : Part} {v : List ℕ} {n x r w start : ℕ} (t : ℕ) →
 down-table t e h f k = down t under-table (rw e at h) (rw e at f) k
 
 -- what a call from evaluate_part asks
-module _ {s : List ℕ} {named : ℕ → Part} {d at : ℕ} {p : Part} {n : ℕ} (k : Stands s named d at p n) where
+module _ {s : List ℕ} {named : ℕ → Part} {d at : ℕ} {p : Part} {n : ℕ} (k : PartThere s named d at p n) where
   pub enter : {v : List ℕ} {m : ℕ} (t : ℕ) → 20 * parts (partAt s named d at) + 19 ≡ t → Fair (partAt s named d at) → Packed places v m
       → (20 * parts p < t) × (Fair p × Packed places v m)
   enter t h f q = (omega (arith, ap parts (k .part)), (rw (k .part) at f, q))
@@ -179,7 +179,7 @@ module _ {p q : Part} {s : Packets} {n k : ℕ} {v w : List ℕ} {a b : Worked}
   over-seq-right h = did-over h (omega (arith, after-first .over h))
 
   pub did-seq-at : {r : Worked} → b .wide ≡ false
-      → ((p q : Part) (s : Packets) (n k : ℕ) (x v : List ℕ) → Fine p s n x a → Fine q (out p s) k v b → Did (Seq p q) s k v r)
+      → ((p q : Part) (s : Packets) (n k : ℕ) (x v : List ℕ) → NotWide p s n x a → NotWide q (out p s) k v b → Did (Seq p q) s k v r)
       → Did (Seq p q) s k w r
   did-seq-at h f = f p q s n k v w (d .fine e) (after-first .fine h)
 

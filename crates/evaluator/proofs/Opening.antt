@@ -20,12 +20,12 @@ use Rattle.rules.proofs.Inside.{main-placed}
 use Rattle.evaluator.specs.Work.{Sees, IsAccepted, Populated}
 use Rattle.evaluator.specs.declared.Looked.{Looked}
 use Rattle.evaluator.proofs.WorkLaws.{no}
-use Rattle.rules.proofs.CodeLaws.{Stands, stands-zero, stands-head, stands-as}
+use Rattle.rules.proofs.CodeLaws.{PartThere, stands-zero, stands-head, stands-as}
 
 abbrev pub looked : Bool → ℕ → Looked
 looked f n = record { found = f; next = n }
 
-pub sees-there : {s : List ℕ} {named : ℕ → Part} {d at n : ℕ} {p : Part} {r : Looked} → Stands s named d at p n → Sees p n r
+pub sees-there : {s : List ℕ} {named : ℕ → Part} {d at n : ℕ} {p : Part} {r : Looked} → PartThere s named d at p n → Sees p n r
     → Sees (partAt s named d at) (after s d at) r
 sees-there k h = rw (k .part, k .next) h
 

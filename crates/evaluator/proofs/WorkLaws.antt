@@ -12,7 +12,7 @@ use Rattle.rules.proofs.Bounds.{handed, given}
 use Rattle.rows.specs.Chunks.{Packed, Held, Fits}
 use Rattle.sets.specs.Whole.{packetsOf}
 use Rattle.rows.proofs.Holding.{held-self, held-few, fits-few, fits-many}
-use Rattle.evaluator.specs.Work.{worked, Fine, Did, Joins}
+use Rattle.evaluator.specs.Work.{worked, NotWide, Did, Joins}
 use Rattle.evaluator.specs.declared.Worked.{Worked}
 
 pub no : {P : Type 0} → _≡_ {A = Bool} true false → P
@@ -22,7 +22,7 @@ module _ {p : Part} {s : Packets} {n : ℕ} {v : List ℕ} {r : Worked} where
   pub did-over : r .wide ≡ true → mostPackets < width p s → Did p s n v r
   did-over e h = record { over = λ _. h; fine = λ f. no (sym e ∙ f) }
 
-  pub did-fine : r .wide ≡ false → Fine p s n v r → Did p s n v r
+  pub did-fine : r .wide ≡ false → NotWide p s n v r → Did p s n v r
   did-fine e h = record { over = λ f. no (sym f ∙ e); fine = λ _. h }
 
 -- an array has at most 16 packets
@@ -53,7 +53,7 @@ module _ {v : List ℕ} {n : ℕ} (k : Packed places v n) (a : ℕ) where
         did-fine refl (record { narrow = omega (arith, packed-few k, held-few h); held = h; steps = refl; room = refl; next = refl })
 
 pub did-not : {v : List ℕ} {n : ℕ} → Packed places v n → {x w : List ℕ} {c : ℕ} (a : Worked)
-    → Held places w c (keep (lacks (packetsOf (a .count) x)) (packetsOf n v)) → (p : Part) (k : ℕ) → Fine p (packetsOf n v) k x a
+    → Held places w c (keep (lacks (packetsOf (a .count) x)) (packetsOf n v)) → (p : Part) (k : ℕ) → NotWide p (packetsOf n v) k x a
     → Did (Not p) (packetsOf n v) k w (worked c (a .steps + 2) (1 + a .room) (a .next))
 unfolding out steps room width own
 did-not {v} {n} q {x} {w} {c} a h p k f =
@@ -88,7 +88,7 @@ module _ (c : ℕ) (a b : Worked) where
   }
 
 pub did-seq : (a b : Worked) (z : ℕ) → z ≡ max (1 + a .room) (b .room) → (p q : Part) (s : Packets) (n k : ℕ) (x v : List ℕ)
-    → Fine p s n x a → Fine q (out p s) k v b → Did (Seq p q) s k v (worked (b .count) (a .steps + b .steps + 1) z (b .next))
+    → NotWide p s n x a → NotWide q (out p s) k v b → Did (Seq p q) s k v (worked (b .count) (a .steps + b .steps + 1) z (b .next))
 unfolding out steps room width own
 did-seq a b z e p q s n k x v f g =
     did-fine refl (record {
@@ -99,7 +99,7 @@ did-seq a b z e p q s n k x v f g =
       next = g .next;
     })
 
-pub did-table : (a : Worked) (next x rd w start : ℕ) (p : Part) (s : Packets) (n : ℕ) (v : List ℕ) → Fine p s n v a
+pub did-table : (a : Worked) (next x rd w start : ℕ) (p : Part) (s : Packets) (n : ℕ) (v : List ℕ) → NotWide p s n v a
     → Did (Table x rd w start p) s next v (worked (a .count) (1 + a .steps) (a .room) next)
 unfolding out steps room width own
 did-table a next x rd w start p s n v f =

@@ -54,7 +54,7 @@ abbrev pub worked : ℕ → ℕ → ℕ → ℕ → Worked
 worked c n k a = record { wide = false; count = c; steps = n; room = k; next = a }
 
 -- what a part p gives on the packets s, where it is not too wide: the array v; n is the place after it
-pub record Fine (p : Part) (s : Packets) (n : ℕ) (v : List ℕ) (r : Worked) : Type 0 where
+pub record NotWide (p : Part) (s : Packets) (n : ℕ) (v : List ℕ) (r : Worked) : Type 0 where
   pub narrow : width p s ≤ mostPackets
   pub held : Held places v (r .count) (out p s)
   pub steps : r .steps ≡ steps p s
@@ -64,7 +64,7 @@ pub record Fine (p : Part) (s : Packets) (n : ℕ) (v : List ℕ) (r : Worked) :
 -- too wide exactly if it says so, and else fine
 pub record Did (p : Part) (s : Packets) (n : ℕ) (v : List ℕ) (r : Worked) : Type 0 where
   pub over : r .wide ≡ true → mostPackets < width p s
-  pub fine : r .wide ≡ false → Fine p s n v r
+  pub fine : r .wide ≡ false → NotWide p s n v r
 
 -- small enough that the sums of two do not wrap
 pub record Small (r : Worked) : Type 0 where

@@ -25,7 +25,7 @@ ghost use Rattle.rules.specs.Promises.{EvaluateAnswer};
 ghost use Rattle.rows.specs.Chunks.{Packed, Held, Fits};
 ghost use Rattle.sets.specs.Whole.{packetsOf};
 ghost use Rattle.evaluator.specs.Work.{namedIn, partIn, notFrom, sumFrom, seqFrom, besideOf};
-ghost use Rattle.evaluator.specs.Work.{afterTwo, Fair, Fine, Did, Small, Joins, Sees, IsAccepted, Populated, worked};
+ghost use Rattle.evaluator.specs.Work.{afterTwo, Fair, NotWide, Did, Small, Joins, Sees, IsAccepted, Populated, worked};
 ghost use Rattle.evaluator.specs.Passing.{Passable, Passes, Weighs};
 
 // What a part gives on the packets of a lent array: too wide, or how many they are then, its steps and its room, and the place after it.
@@ -120,7 +120,7 @@ fn not_given(v: &mut Values, n: usize, x: &Values, m: usize) -> usize
 // The packets of v that a did not give, which are in x.
 fn not_of(v: &mut Values, n: usize, x: &Values, a: Worked) -> Worked
     requires { ⌜ Packed places (now v) n × Packed places (now x) (a .count) × Small a ⌝ }
-    ensures { λ r. ⌜ ((p : Part) (k : ℕ) → Fine p (packetsOf n (now (v .entry))) k (now (x .entry)) a
+    ensures { λ r. ⌜ ((p : Part) (k : ℕ) → NotWide p (packetsOf n (now (v .entry))) k (now (x .entry)) a
         → Did (Not p) (packetsOf n (now (v .entry))) k (now (v .exit)) r) ⌝ }
 {
     let m = a.count;
@@ -160,7 +160,7 @@ fn larger(x: u64, y: u64) -> u64
 // What b gave, after a.
 fn seq_of(a: Worked, b: Worked) -> Worked
     requires { ⌜ Small a × Small b ⌝ }
-    ensures { λ r. ⌜ ((p q : Part) (s : Packets) (n k : ℕ) (x v : List ℕ) → Fine p s n x a → Fine q (out p s) k v b
+    ensures { λ r. ⌜ ((p q : Part) (s : Packets) (n k : ℕ) (x v : List ℕ) → NotWide p s n x a → NotWide q (out p s) k v b
         → Did (Seq p q) s k v r) ⌝ }
 {
     Worked {
@@ -175,7 +175,7 @@ fn seq_of(a: Worked, b: Worked) -> Worked
 // What a table's body gave; the use of the table ends before next.
 fn table_of(a: Worked, next: usize) -> Worked
     requires { ⌜ Small a ⌝ }
-    ensures { λ r. ⌜ ((x rd w start : ℕ) (p : Part) (s : Packets) (n : ℕ) (v : List ℕ) → Fine p s n v a
+    ensures { λ r. ⌜ ((x rd w start : ℕ) (p : Part) (s : Packets) (n : ℕ) (v : List ℕ) → NotWide p s n v a
         → Did (Table x rd w start p) s next v r) ⌝ }
 {
     Worked {

@@ -3,20 +3,20 @@ use Prim.Native.Nat.{ℕ, _<_}
 use native.Mathlib.Omega.{arith}
 use mathlib.Core.Path.{_≡_, refl}
 use mathlib.Core.List.{List, [], _∷_, _++_}
-use Rattle.links.specs.Nets.{Net, rest, over, one, two, root, foot, Node, Shows, Held, Frame, under, left, right}
-use Rattle.links.specs.Nets.{fill, plug, number, upOf, footIn, HeldIn, times}
+use Rattle.links.specs.Nets.{Net, rest, over, one, two, root, foot, Node, Shows, AllShow, Frame, under, left, right}
+use Rattle.links.specs.Nets.{fill, plug, number, upOf, footIn, AllShowIn, times}
 use Rattle.links.proofs.Times.{same-self, times-append}
 
 module _ (P : Shows) (none : ℕ) where
-  pub held-plug : (c : List Frame) (x : Net) → Held P (upOf none c) x → HeldIn P none c (root x) → Held P none (plug c x)
-  unfolding Held HeldIn plug fill root upOf number
+  pub held-plug : (c : List Frame) (x : Net) → AllShow P (upOf none c) x → AllShowIn P none c (root x) → AllShow P none (plug c x)
+  unfolding AllShow AllShowIn plug fill root upOf number
   held-plug [] x h k = h
   held-plug (under i o ∷ c) x h k = held-plug c (one i o x) (k .0, h) (k .1)
   held-plug (left i j m ∷ c) x h k = held-plug c (two i j x m) (k .0, h, k .1) (k .2)
   held-plug (right i j n ∷ c) x h k = held-plug c (two i j n x) (k .0, k .1, h) (k .2)
 
-  pub plug-held : (c : List Frame) (x : Net) → Held P none (plug c x) → Held P (upOf none c) x × HeldIn P none c (root x)
-  unfolding Held HeldIn plug fill root upOf number
+  pub plug-held : (c : List Frame) (x : Net) → AllShow P none (plug c x) → AllShow P (upOf none c) x × AllShowIn P none c (root x)
+  unfolding AllShow AllShowIn plug fill root upOf number
   plug-held [] x h = (h, tt)
   plug-held (under i o ∷ c) x h = let r = plug-held c (one i o x) h in (r .0 .1, (r .0 .0, r .1))
   plug-held (left i j m ∷ c) x h = let r = plug-held c (two i j x m) h in (r .0 .1, (r .0 .0, r .0 .2, r .1))
@@ -49,8 +49,8 @@ module _ {P Q : Shows} where
   unfolding times
   kept-tail f = record { show = λ k h. f .show k (omega arith) }
 
-  pub held-kept : (up : ℕ) (x : Net) → Kept P Q (foot x) → Held P up x → Held Q up x
-  unfolding Held foot
+  pub held-kept : (up : ℕ) (x : Net) → Kept P Q (foot x) → AllShow P up x → AllShow Q up x
+  unfolding AllShow foot
   held-kept up (rest i o p s) f h = kept-head f up _ h
   held-kept up (over i s) f h = kept-head f up _ h
   held-kept up (one i o n) f h = (kept-head f up _ (h .0), held-kept i n (kept-tail f) (h .1))
@@ -58,8 +58,8 @@ module _ {P Q : Shows} where
       let g = kept-tail f in
       (kept-head f up _ (h .0), held-kept i n (kept-front (foot n) _ g) (h .1), held-kept i m (kept-back (foot n) _ g) (h .2))
 
-  pub held-in-kept : (none : ℕ) (c : List Frame) (x : ℕ) → Kept P Q (footIn c) → HeldIn P none c x → HeldIn Q none c x
-  unfolding HeldIn footIn
+  pub held-in-kept : (none : ℕ) (c : List Frame) (x : ℕ) → Kept P Q (footIn c) → AllShowIn P none c x → AllShowIn Q none c x
+  unfolding AllShowIn footIn
   held-in-kept none [] x f h = tt
   held-in-kept none (under i o ∷ c) x f h = (kept-head f _ _ (h .0), held-in-kept none c i (kept-tail f) (h .1))
   held-in-kept none (left i j m ∷ c) x f h =
@@ -70,7 +70,7 @@ module _ {P Q : Shows} where
       (kept-head f _ _ (h .0), held-kept i n (kept-front (foot n) _ g) (h .1), held-in-kept none c i (kept-back (foot n) _ g) (h .2))
 
   -- the subtree in the hole replaced by another of the same root: one law for every step
-  pub replaced : (none : ℕ) (c : List Frame) (x y : Net) → root y ≡ root x → Kept P Q (footIn c) → Held P none (plug c x)
-      → Held Q (upOf none c) y → Held Q none (plug c y)
+  pub replaced : (none : ℕ) (c : List Frame) (x y : Net) → root y ≡ root x → Kept P Q (footIn c) → AllShow P none (plug c x)
+      → AllShow Q (upOf none c) y → AllShow Q none (plug c y)
   replaced none c x y e f h k =
       held-plug Q none c y k (rw e (held-in-kept none c (root x) f (plug-held P none c x h .1)))

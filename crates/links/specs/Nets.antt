@@ -73,11 +73,11 @@ abbrev pub Shows : Type 1
 Shows = ℕ → ℕ → Node → Type 0
 
 -- every position of the net shows what it is, from `up` down
-unfoldable pub Held : Shows → ℕ → Net → Type 0
-Held P up (rest i o p s) = P i up (Rest (o .at) p s)
-Held P up (over i s) = P i up (Over s)
-Held P up (one i h n) = P i up (nodeOf h (root n)) × Held P i n
-Held P up (two i j n m) = P i up (Two j (root n) (root m)) × Held P i n × Held P i m
+unfoldable pub AllShow : Shows → ℕ → Net → Type 0
+AllShow P up (rest i o p s) = P i up (Rest (o .at) p s)
+AllShow P up (over i s) = P i up (Over s)
+AllShow P up (one i h n) = P i up (nodeOf h (root n)) × AllShow P i n
+AllShow P up (two i j n m) = P i up (Two j (root n) (root m)) × AllShow P i n × AllShow P i m
 
 -- ---- a net with a hole: the positions above it, the nearest first
 
@@ -112,11 +112,11 @@ footIn (left i j m ∷ c) = i ∷ (foot m ++ footIn c)
 footIn (right i j n ∷ c) = i ∷ (foot n ++ footIn c)
 
 -- every position around the hole shows what it is, where x is the number of what fills it
-unfoldable pub HeldIn : Shows → ℕ → List Frame → ℕ → Type 0
-HeldIn P none [] x = Unit {0}
-HeldIn P none (under i h ∷ c) x = P i (upOf none c) (nodeOf h x) × HeldIn P none c i
-HeldIn P none (left i j m ∷ c) x = P i (upOf none c) (Two j x (root m)) × Held P i m × HeldIn P none c i
-HeldIn P none (right i j n ∷ c) x = P i (upOf none c) (Two j (root n) x) × Held P i n × HeldIn P none c i
+unfoldable pub AllShowIn : Shows → ℕ → List Frame → ℕ → Type 0
+AllShowIn P none [] x = Unit {0}
+AllShowIn P none (under i h ∷ c) x = P i (upOf none c) (nodeOf h x) × AllShowIn P none c i
+AllShowIn P none (left i j m ∷ c) x = P i (upOf none c) (Two j x (root m)) × AllShow P i m × AllShowIn P none c i
+AllShowIn P none (right i j n ∷ c) x = P i (upOf none c) (Two j (root n) x) × AllShow P i n × AllShowIn P none c i
 
 -- the ready positions left and right of the hole, while what fills it is not finished; and the one above it, once it is
 unfoldable pub lefts : List Frame → List ℕ

@@ -19,7 +19,7 @@ use Rattle.rules.proofs.Whole.{FineBody, tableAt, entries-read}
 use Rattle.rules.proofs.AcceptedBooks.{accepted-readable, accepted-length, accepted-fields, accepted-right, accepted-tested}
 use Rattle.rules.proofs.AcceptedBooks.{accepted-written}
 use Rattle.rules.proofs.Stuck.{never-stuck}
-use Rattle.steps.specs.Standing.{partOf, Stands, Readable}
+use Rattle.steps.specs.Standing.{partOf, Runnable, Readable}
 
 -- where code 8 may not stand, uses of tables do not matter, and none is unpopulated
 module _ (c : Scope) (m : c .main ≡ false) (n n′ : ℕ → Part) where
@@ -55,8 +55,8 @@ module _ (c : Scope) (m : c .main ≡ false) (n n′ : ℕ → Part) where
   fine-closed (suc d) pred (Open x r w) f = absurd (no-main (f .1))
 
 -- the entry of a table among those that s says
-tables-at : (s : List ℕ) (F : Entry → Type 0) (n x i : ℕ) → R.AllStand s x (tablesFrom s n x) → OfEach F (tablesFrom s n x) → i < n
-    → R.Stands s (x + i) (tableAt s (x + i)) × F (tableAt s (x + i))
+tables-at : (s : List ℕ) (F : Entry → Type 0) (n x i : ℕ) → R.AllThere s x (tablesFrom s n x) → OfEach F (tablesFrom s n x) → i < n
+    → R.EntryThere s (x + i) (tableAt s (x + i)) × F (tableAt s (x + i))
 unfolding tablesFrom
 tables-at s F zero x i a f l = absurd (omega arith)
 tables-at s F (suc n) x zero a f l = let e : x + 0 ≡ x = omega arith in rw e (a .0, f .0)
@@ -69,8 +69,8 @@ module _ (s : List ℕ) (z : Sizes) (v : verdict s ≡ Accepted z) (small : Byte
 
   -- a table's body stands where it starts
   body-there : (x : ℕ) (p : Part) → bodyAt s x ≡ some p
-      → R.Stands s x (tableAt s x) × OfBody (FineBody (fieldsOf s) (tablesOf s)) (bodyAt s x)
-      → (partOf s (bodyStart s x) ≡ p) × Stands s (bodyStart s x)
+      → R.EntryThere s x (tableAt s x) × OfBody (FineBody (fieldsOf s) (tablesOf s)) (bodyAt s x)
+      → (partOf s (bodyStart s x) ≡ p) × Runnable s (bodyStart s x)
   unfolding bytesOf partOf
   body-there x p e h =
       let f : FineBody (fieldsOf s) (tablesOf s) p = rw e at (h .1) in
@@ -103,16 +103,16 @@ module _ (s : List ℕ) (z : Sizes) (v : verdict s ≡ Accepted z) (small : Byte
       F y = OfBody (FineBody (fieldsOf s) (tablesOf s)) (y .body)
 
       go : (x : ℕ) (p : Part) → 0 < x → x ≤ tablesOf s → bodyAt s x ≡ some p
-          → ((i : ℕ) → R.AllStand s 1 (tablesFrom s (tablesOf s) 1) → OfEach F (tablesFrom s (tablesOf s) 1) → i < tablesOf s
-          → R.Stands s (1 + i) (tableAt s (1 + i)) × F (tableAt s (1 + i)))
-          → R.AllStand s 1 (tablesFrom s (tablesOf s) 1) → OfEach F (tablesFrom s (tablesOf s) 1)
-          → (partOf s (bodyStart s x) ≡ p) × Stands s (bodyStart s x)
+          → ((i : ℕ) → R.AllThere s 1 (tablesFrom s (tablesOf s) 1) → OfEach F (tablesFrom s (tablesOf s) 1) → i < tablesOf s
+          → R.EntryThere s (1 + i) (tableAt s (1 + i)) × F (tableAt s (1 + i)))
+          → R.AllThere s 1 (tablesFrom s (tablesOf s) 1) → OfEach F (tablesFrom s (tablesOf s) 1)
+          → (partOf s (bodyStart s x) ≡ p) × Runnable s (bodyStart s x)
       go zero p l u e t a f = absurd (omega arith)
       go (suc i) p l u e t a f =
           let k : 1 + i ≡ suc i = omega arith in
           body-there (suc i) p e (rw k at (t i a f (omega arith)))
 
-  pub accepted-stands : namesOpen (mainOf s) ≡ false → Stands s (bodyStart s 0)
+  pub accepted-stands : namesOpen (mainOf s) ≡ false → Runnable s (bodyStart s 0)
   unfolding policyOf entries bytesOf mainOf partOf
   accepted-stands o =
       let r = entries-read s small (accepted-readable s z v) in

@@ -10,7 +10,8 @@ use lib.Seq.{getD-take, getD-drop, getD-append-add}
 use Rattle.rules.specs.States.{Tree, placed, done, waiting, negated, both, next, ready, live, move, run}
 use Rattle.rules.proofs.Choose.{readies, ready-count, stepAt, move-at}
 use Rattle.steps.specs.Standing.{Readable}
-use Rattle.links.specs.Nets.{waits, keeps, Net, rest, over, one, two, above, bare, root, foot, isOver, readyOf, Held, HeldIn, Frame, plug}
+use Rattle.links.specs.Nets.{waits, keeps, Net, rest, over, one, two, above, bare, root, foot, isOver, readyOf, AllShow, AllShowIn, Frame}
+use Rattle.links.specs.Nets.{plug}
 use Rattle.links.specs.Nets.{upOf, footIn, lefts, rights, times, Prime, rests, single, double}
 use Rattle.links.proofs.Times.{times-plug, length-plug, live-foot}
 use Rattle.links.proofs.Plugging.{plug-held}
@@ -86,7 +87,7 @@ module _ (s w : List ℕ) (n r : ℕ) (t : Tree) (H : Holds s w n r t) where
         ∙ ap (λ (k : List ℕ). getD k j 0) (sym lists)
         ∙ getD-take r (drop readyFrom w) j 0 l ∙ getD-drop readyFrom w j 0 ∙ sym ei
 
-    at-hole : Held (showing s w) (upOf nobody c) x × HeldIn (showing s w) nobody c (root x)
+    at-hole : AllShow (showing s w) (upOf nobody c) x × AllShowIn (showing s w) nobody c (root x)
     at-hole = plug-held (showing s w) nobody c x (rw (F .whole) at (H .held))
 
     pub up-is : headerAt w i .up ≡ upOf nobody c

@@ -16,7 +16,7 @@ use Rattle.rules.proofs.Measures.{final}
 use Rattle.rules.proofs.Schedules.{view, finished, unfinished}
 use Rattle.rows.specs.Arrays.{Emitted, onto}
 use Rattle.rows.proofs.Chunks.{length-chunks}
-use Rattle.links.specs.Nets.{waits, keeps, Net, rest, over, one, two, above, bare, root, Held}
+use Rattle.links.specs.Nets.{waits, keeps, Net, rest, over, one, two, above, bare, root, AllShow}
 use Rattle.links.proofs.Times.{live-foot}
 use Rattle.area.specs.Words.{positions, rowWords, areaWords, nobody, headerAt, rowsAt}
 use Rattle.steps.specs.State.{showing, setAt, Holds}
@@ -25,8 +25,8 @@ use Rattle.machine.proofs.Phases.{over-shown}
 use Rattle.machine.proofs.Playing.{ready-is, over-is, goes-is}
 
 -- the root of a finished net has its set
-done-set : (s w : List ℕ) (up : ℕ) (x : Net) (F : Packets) → bare x ≡ done F → Held (showing s w) up x → setAt w (root x) ≡ F
-unfolding bare above Held root
+done-set : (s w : List ℕ) (up : ℕ) (x : Net) (F : Packets) → bare x ≡ done F → AllShow (showing s w) up x → setAt w (root x) ≡ F
+unfolding bare above AllShow root
 done-set s w up (rest i o p y) F e h = let z : _≡_ {A = ℕ} 0 1 = cc in absurd (omega arith)
 done-set s w up (over i y) F e h = let d : y ≡ F = cc in over-shown h .1 ∙ d
 done-set s w up (one i (waits o q) n) F e h = let z : _≡_ {A = ℕ} 0 1 = cc in absurd (omega arith)

@@ -18,7 +18,7 @@ use Rattle.rules.proofs.Sets.{union-ascending, gathered-ascending, keep-ascendi
 use Rattle.rules.proofs.Schedules.{run-keeps, held-width}
 use Rattle.rules.proofs.Rooms.{live-room}
 use Rattle.rules.proofs.Everywhere.{Inherited, run-everywhere}
-use Rattle.steps.specs.Standing.{partOf, Stands, Readable}
+use Rattle.steps.specs.Standing.{partOf, Runnable, Readable}
 use Rattle.steps.proofs.Standing.{Found, below-not, below-sum, below-seq, below-beside, below-table}
 use Rattle.area.specs.Words.{positions}
 use Rattle.machine.specs.Runs.{Reads, Fit, Playable}
@@ -103,7 +103,7 @@ next-ordered (both j t u) h =
 
 -- ---- the parts stand in the book
 
-found-reads : {s : List ℕ} {at at′ : ℕ} {p : Part} → Found s at p → at ≡ at′ → (partOf s at′ ≡ p) × Stands s at′
+found-reads : {s : List ℕ} {at at′ : ℕ} {p : Part} → Found s at p → at ≡ at′ → (partOf s at′ ≡ p) × Runnable s at′
 found-reads h e = rw (← e) (h .same, h .stands)
 
 inherited : (s : List ℕ) → Readable s → Inherited (Reads s)
@@ -130,7 +130,7 @@ fit-state s (negated k t) a e h = ((omega arith, a .0), fit-state s t (a .1) e (
 fit-state s (both j t u) a e h = (fit-state s t (a .0) (e .0) (omega arith), fit-state s u (a .1) (e .1) (omega arith))
 
 -- a run from a part that stands, on an ascending set, of width 16 and room 160 at most
-playable : (s : List ℕ) (o : Spot) (S : Packets) → Readable s → Stands s (o .at) → Ascending S
+playable : (s : List ℕ) (o : Spot) (S : Packets) → Readable s → Runnable s (o .at) → Ascending S
     → width (partOf s (o .at)) S ≤ 16 → room (partOf s (o .at)) S ≤ positions → Playable s (place o (partOf s (o .at)) S)
 playable s o S b st up w r bs =
     let p : Part = partOf s (o .at) in
@@ -139,7 +139,7 @@ playable s o S b st up w r bs =
     let e = run-everywhere (Reads s) (inherited s b) o p S bs (refl, st) in
     (fit-state s t a e (omega (arith, held-width o p S bs)), omega (arith, live-room o p S bs))
 
-pub start-playable : (s packet : List ℕ) → Readable s → Stands s (bodyStart s 0) → width (mainOf s) (startSet packet) ≤ 16
+pub start-playable : (s packet : List ℕ) → Readable s → Runnable s (bodyStart s 0) → width (mainOf s) (startSet packet) ≤ 16
     → room (mainOf s) (startSet packet) ≤ positions → Playable s (start s packet)
 unfolding start mainOf partOf
 start-playable s packet b st w r = playable s (startSpot s) (startSet packet) b st (tt, tt) w r

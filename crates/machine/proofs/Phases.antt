@@ -7,7 +7,7 @@ use Rattle.rules.specs.Packets.{Packets}
 use Rattle.rules.specs.Parts.{Part}
 use Rattle.rules.specs.States.{Join}
 use Rattle.steps.specs.Standing.{partOf, joinOf}
-use Rattle.links.specs.Nets.{waits, keeps, Net, rest, over, one, two, root, Rest, Over, Waits, Keeps, Two, Held}
+use Rattle.links.specs.Nets.{waits, keeps, Net, rest, over, one, two, root, Rest, Over, Waits, Keeps, Two, AllShow}
 use Rattle.area.specs.declared.headers.Header.{Header}
 use Rattle.area.specs.Words.{headerAt}
 use Rattle.steps.specs.State.{shownBy, Showing, showing, setAt}
@@ -85,8 +85,8 @@ module _ {s w : List ℕ} {i up : ℕ} where
   two-shown o = two-by s (headerAt w i) _ (headerAt w i .phase) _ _ _ (o .node)
 
 -- a net's root shows the number above it
-pub above-root : (s w : List ℕ) (up : ℕ) (x : Net) → Held (showing s w) up x → headerAt w (root x) .up ≡ up
-unfolding Held root
+pub above-root : (s w : List ℕ) (up : ℕ) (x : Net) → AllShow (showing s w) up x → headerAt w (root x) .up ≡ up
+unfolding AllShow root
 above-root s w up (rest i o p y) h = h .above
 above-root s w up (over i y) h = h .above
 above-root s w up (one i (waits o q) n) h = h .0 .above

@@ -13,9 +13,9 @@ use Rattle.rules.specs.States.{Spot, on, moved, losing, placed, done, finish, p
 use Rattle.rules.specs.States.{next, live, move}
 use Rattle.rules.proofs.ReadingLaws.{head-is}
 use Rattle.rows.proofs.Chunks.{length-chunks}
-use Rattle.steps.specs.Standing.{partOf, Stands, Readable}
+use Rattle.steps.specs.Standing.{partOf, Runnable, Readable}
 use Rattle.steps.proofs.Standing.{inside, part-id, seq-below}
-use Rattle.links.specs.Nets.{waits, keeps, Net, above, bare, root, foot, nodeOf, Held, Frame, under, left}
+use Rattle.links.specs.Nets.{waits, keeps, Net, above, bare, root, foot, nodeOf, AllShow, Frame, under, left}
 use Rattle.links.specs.Nets.{right, fill, plug, times, Prime, rests, single, double}
 use Rattle.links.proofs.Times.{same-self}
 use Rattle.links.proofs.Local.{Own, enters, takes, lacks-it, joins}
@@ -87,7 +87,7 @@ prime-own (single {h = keeps k}) = lacks-it
 prime-own double = joins
 
 -- what is placed is neither id nor a sequence
-acts : (s : List ℕ) (at : ℕ) (o : Spot) (x : Packets) → Stands s at → place o (partOf s at) x ≡ placed o (partOf s at) x
+acts : (s : List ℕ) (at : ℕ) (o : Spot) (x : Packets) → Runnable s at → place o (partOf s at) x ≡ placed o (partOf s at) x
     → (0 < getD s at 0) × (getD s at 0 ≡ 6 → ⊥)
 unfolding place
 acts s at o x h e = (go (getD s at 0) refl, λ six. no-seq six)
@@ -107,7 +107,7 @@ acts s at o x h e = (go (getD s at 0) refl, λ six. no-seq six)
 
 -- a net that stands below `up`, with what is known of it in a fit state
 pub record Near (s w : List ℕ) (n up : ℕ) (x : Net) : Type 0 where
-  pub held : Held (showing s w) up x
+  pub held : AllShow (showing s w) up x
   pub once : Once (foot x) (freeList w n)
   pub few : n + length (foot x) ≤ positions
   pub fit : Fit s (bare x)
@@ -121,13 +121,13 @@ slim-at : (w : List ℕ) (i : ℕ) (y : Packets) → setAt w i ≡ y → Slim y 
 slim-at w i y e h = (omega (arith, sym (length-chunks rowWords (headerAt w i .count) _) ∙ ap length e, h .0), rw e (h .1))
 
 pub can-step : {s w : List ℕ} {n up : ℕ} {x : Net} → Prime x → Near s w n up x → Stepping s w n (root x)
-unfolding Held root foot bare above nodeOf Fit move next finish leave times live
+unfolding AllShow root foot bare above nodeOf Fit move next finish leave times live
 can-step {s} {w} {n} (rests {i = i} {o = o} {p = p} {s = y}) k =
     let z = rest-shown (k .held) in
     let f = k .fit in
     let m = slim-at w i y (z .3) (f .2) in
     let e : partOf s (o .at) ≡ p = f .0 .0 in
-    let st : Stands s (headerAt w i .place) = rw (z .1) (f .0 .1) in
+    let st : Runnable s (headerAt w i .place) = rw (z .1) (f .0 .1) in
     let l : i < positions = below-small i (omega (arith, k .once i, same-self i)) in
     record {
       there = l;
@@ -237,9 +237,9 @@ abbrev Steps : (s w v : List ℕ) (n m a q : ℕ) → Net → Type 0
 Steps s w v n m a q x = Turned s w v n m (foot x) (headerAt w (root x) .up) (root x) (move 0 (bare x)) a q
 
 module _ {s w v : List ℕ} {n m a q : ℕ} where
-  entered-at : {x : Net} → Prime x → Held (showing s w) (headerAt w (root x) .up) x → headerAt w (root x) .phase ≡ 0
+  entered-at : {x : Net} → Prime x → AllShow (showing s w) (headerAt w (root x) .up) x → headerAt w (root x) .phase ≡ 0
       → Entered s w v n m (root x) a q → Steps s w v n m a q x
-  unfolding Held root foot bare above nodeOf move next
+  unfolding AllShow root foot bare above nodeOf move next
   entered-at (rests {i = i} {o = o} {p = p} {s = y}) h e T = let z = rest-shown h in rw (z .2, z .3, z .1) at (T (o .fields))
   entered-at (single {h = waits o p}) h e T = let z = waits-shown (h .0) in absurd (omega (arith, z .0))
   entered-at (single {h = keeps k}) h e T = let z = keeps-shown (h .0) in absurd (omega (arith, z .0))
@@ -249,10 +249,10 @@ module _ {s w v : List ℕ} {n m a q : ℕ} where
   unfolding Stepped
   entered-steps e T x p r h = rw (← r) (entered-at p (rw (← r) at h) (rw (← r) at e) (rw (← r) at T))
 
-  taken-at : {x : Net} → Prime x → Held (showing s w) (headerAt w (root x) .up) x → headerAt w (root x) .phase ≡ 2
+  taken-at : {x : Net} → Prime x → AllShow (showing s w) (headerAt w (root x) .up) x → headerAt w (root x) .phase ≡ 2
       → ((f : ℕ) → Turned s w v n m (root x ∷ headerAt w (root x) .left ∷ []) (headerAt w (root x) .up) (root x)
       (place (spotAt w (root x) f) (partAt s w (root x)) (setAt w (headerAt w (root x) .left))) a q) → Steps s w v n m a q x
-  unfolding Held root foot bare above nodeOf move next finish
+  unfolding AllShow root foot bare above nodeOf move next finish
   taken-at rests h e T = let z = rest-shown h in absurd (omega (arith, z .0))
   taken-at (single {h = waits o p}) h e T =
       let z = waits-shown (h .0) in
@@ -267,10 +267,10 @@ module _ {s w v : List ℕ} {n m a q : ℕ} where
   unfolding Stepped
   taken-steps e T x p r h = rw (← r) (taken-at p (rw (← r) at h) (rw (← r) at e) (rw (← r) at T))
 
-  lacked-at : {x : Net} → Prime x → Held (showing s w) (headerAt w (root x) .up) x → headerAt w (root x) .phase ≡ 3
+  lacked-at : {x : Net} → Prime x → AllShow (showing s w) (headerAt w (root x) .up) x → headerAt w (root x) .phase ≡ 3
       → Turned s w v n m (root x ∷ headerAt w (root x) .left ∷ []) (headerAt w (root x) .up) (root x)
       (done (lacking w (root x) (headerAt w (root x) .left))) a q → Steps s w v n m a q x
-  unfolding Held root foot bare above nodeOf move next finish
+  unfolding AllShow root foot bare above nodeOf move next finish
   lacked-at rests h e T = let z = rest-shown h in absurd (omega (arith, z .0))
   lacked-at (single {h = waits o p}) h e T = let z = waits-shown (h .0) in absurd (omega (arith, z .0))
   lacked-at (single {h = keeps k}) h e T =
@@ -285,10 +285,10 @@ module _ {s w v : List ℕ} {n m a q : ℕ} where
   unfolding Stepped
   lacked-steps e T x p r h = rw (← r) (lacked-at p (rw (← r) at h) (rw (← r) at e) (rw (← r) at T))
 
-  joined-at : {x : Net} → Prime x → Held (showing s w) (headerAt w (root x) .up) x → 4 ≤ headerAt w (root x) .phase
+  joined-at : {x : Net} → Prime x → AllShow (showing s w) (headerAt w (root x) .up) x → 4 ≤ headerAt w (root x) .phase
       → Turned s w v n m (root x ∷ headerAt w (root x) .left ∷ headerAt w (root x) .right ∷ []) (headerAt w (root x) .up) (root x)
       (done (joining s w (root x) (headerAt w (root x) .left) (headerAt w (root x) .right))) a q → Steps s w v n m a q x
-  unfolding Held root foot bare above nodeOf move next finish leave
+  unfolding AllShow root foot bare above nodeOf move next finish leave
   joined-at rests h e T = let z = rest-shown h in absurd (omega (arith, z .0))
   joined-at (single {h = waits o p}) h e T = let z = waits-shown (h .0) in absurd (omega (arith, z .0))
   joined-at (single {h = keeps k}) h e T = let z = keeps-shown (h .0) in absurd (omega (arith, z .0))

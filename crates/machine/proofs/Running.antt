@@ -25,7 +25,7 @@ use Rattle.evaluator.specs.declared.Passage.{Passage}
 use Rattle.evaluator.specs.declared.Passage.the-variants.{Open, Wide, Through}
 use Rattle.evaluator.specs.Passing.{Passable, Weighs}
 use Rattle.evaluator.proofs.Weighing.{weighs-open, weighs-wide, weighs-through}
-use Rattle.steps.specs.Standing.{Stands, Readable}
+use Rattle.steps.specs.Standing.{Runnable, Readable}
 use Rattle.machine.specs.Runs.{Playable}
 use Rattle.area.specs.Words.{positions}
 use Rattle.machine.specs.Answered.{Weighed, wordsOf}
@@ -116,7 +116,7 @@ module _ (book packet schedule result work : List ℕ) where
     few-words = omega (arith, granted .words, fields-are book (granted .sizes) (granted .accepted))
 
     module _ (small : Bytes book) (h : needs ≤ positions) where
-      pub runs : Readable book × Stands book (bodyStart book 0) × Playable book (start book packet)
+      pub runs : Readable book × Runnable book (bodyStart book 0) × Playable book (start book packet)
       runs =
           let b = accepted-reads book (granted .sizes) (granted .accepted) small in
           let st = accepted-stands book (granted .sizes) (granted .accepted) small (granted .populated) in

@@ -18,7 +18,7 @@ use Rattle.rules.specs.States.{Spot, Tree, placed, done, both, split, paired, p
 use Rattle.rules.proofs.ReadingLaws.{head-is}
 use Rattle.rows.specs.Chunks.{chunks, rowsOf}
 use Rattle.rows.proofs.Chunks.{length-chunks}
-use Rattle.links.specs.Nets.{rest, bare, root, foot, isOver, readyOf, Held, same, times}
+use Rattle.links.specs.Nets.{rest, bare, root, foot, isOver, readyOf, AllShow, same, times}
 use Rattle.links.proofs.Times.{same-self, same-other, times-append, live-foot}
 use Rattle.area.specs.declared.headers.Header.{Header}
 use Rattle.area.specs.Words.{positions, rowWords, nobody, placedPhase, splitPhase, pairedPhase, headerAt, finishedHead, slotAt, rowsAt}
@@ -45,7 +45,7 @@ side-put i e r = rw (← e) (record { here = r .here; out = r .out })
 pub rest-made : (s w v : List ℕ) (n i up at c f : ℕ) (x : Packets) → i < positions → n ≤ positions → c ≡ length x
     → Becomes w v i (record { place = at; phase = placedPhase; count = c; up = up; left = 0; right = 0 }) x
     → (M : Makes s w v n n (i ∷ []) up i (placed (record { at = at; fields = f }) (partOf s at) x)) × Offers (M .net) i
-unfolding bare root Held foot isOver readyOf shownBy
+unfolding bare root AllShow foot isOver readyOf shownBy
 rest-made s w v n i up at c f x li l ec b = (
   record {
     net = rest i (record { at = at; fields = f }) (partOf s at) x;

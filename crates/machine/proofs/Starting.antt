@@ -13,8 +13,8 @@ use Rattle.rules.specs.Reading.{fieldsOf, bodyStart, mainOf}
 use Rattle.rules.specs.States.{place, run}
 use Rattle.rules.specs.Answers.{startSpot, startSet, start}
 use Rattle.rows.specs.Chunks.{chunks}
-use Rattle.steps.specs.Standing.{partOf, Stands, Readable}
-use Rattle.links.specs.Nets.{readyOf, plug, upOf, footIn, HeldIn, lefts, rights, news, same, times}
+use Rattle.steps.specs.Standing.{partOf, Runnable, Readable}
+use Rattle.links.specs.Nets.{readyOf, plug, upOf, footIn, AllShowIn, lefts, rights, news, same, times}
 use Rattle.links.proofs.Times.{same-self, same-other, times-append}
 use Rattle.links.proofs.Plugging.{held-kept}
 use Rattle.links.proofs.ReadyOnes.{ready-after, ready-few}
@@ -75,7 +75,7 @@ freed-all e f = rw e at f
 
 -- ---- the main policy is placed at number 0
 
-module _ (s packet w v₁ v₂ : List ℕ) (b : Readable s) (st : Stands s (bodyStart s 0)) (pl : Playable s (start s packet))
+module _ (s packet w v₁ v₂ : List ℕ) (b : Readable s) (st : Runnable s (bodyStart s 0)) (pl : Playable s (start s packet))
     (area : areaWords ≤ length w) (F : Freed w v₁ (positions - 1)) (R : Rowed v₁ v₂ 0 0 (padded packet)) where
   rows-there : rowsAt v₂ 0 1 ≡ startSet packet
   unfolding chunks
@@ -115,7 +115,7 @@ module _ (s packet w v₁ v₂ : List ℕ) (b : Readable s) (st : Stands s (body
 
     -- the ready numbers of the start
     news-are : newsAt v₃ nobody r nobody ≡ readyOf (M .net)
-    unfolding HeldIn upOf plug lefts rights footIn times
+    unfolding AllShowIn upOf plug lefts rights footIn times
     news-are =
         news-is s v₃ [] (M .net) r nobody (one-offer (L (allFields (fieldsOf s)) .offer)) (M .held) tt (λ k h. absurd (omega arith))
         ∙ sym (ready-after [] (M .net) ∙ append-nil (news [] (M .net)))

@@ -6,7 +6,7 @@ use lib.ListN.{length}
 use Rattle.rules.specs.Packets.{Packets, Ascending, mostPackets}
 use Rattle.rules.specs.Parts.{Part}
 use Rattle.rules.specs.States.{Spot, Tree, placed, done, waiting, negated, both, place, live, move, run, made}
-use Rattle.steps.specs.Standing.{partOf, Stands, Readable}
+use Rattle.steps.specs.Standing.{partOf, Runnable, Readable}
 use Rattle.area.specs.Words.{positions, pastArea}
 use Rattle.steps.specs.State.{Holds}
 
@@ -16,7 +16,7 @@ Slim S = (length S ≤ mostPackets) × Ascending S
 
 -- p stands in the book at its spot
 abbrev pub Reads : List ℕ → Spot → Part → Type 0
-Reads s o p = (partOf s (o .at) ≡ p) × Stands s (o .at)
+Reads s o p = (partOf s (o .at) ≡ p) × Runnable s (o .at)
 
 -- what every state of a run keeps to: its parts stand in the book, a placed one acts by a step of its own, its sets are slim
 unfoldable pub Fit : List ℕ → Tree → Type 0

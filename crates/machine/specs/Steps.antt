@@ -5,7 +5,7 @@ use mathlib.Core.List.{List, [], _∷_}
 use lib.ListN.{length, getD}
 use Rattle.rules.specs.States.{move}
 use Rattle.steps.specs.Standing.{Readable}
-use Rattle.links.specs.Nets.{Net, bare, root, foot, Held, Prime}
+use Rattle.links.specs.Nets.{Net, bare, root, foot, AllShow, Prime}
 use Rattle.area.specs.Words.{positions, areaWords, placedPhase, finishedPhase, waitingPhase, negatedPhase, enteredPhase, headerAt}
 use Rattle.steps.specs.State.{showing, Turned, entering, Entering, Taking, Lacking, Joining}
 
@@ -37,7 +37,7 @@ Entered s w v n m i a q = (f : ℕ) → Turned s w v n m (i ∷ []) (headerAt w 
 -- whatever stands at number i, the rules' step is made there (its own step is the only one)
 unfoldable pub Stepped : List ℕ → List ℕ → List ℕ → ℕ → ℕ → ℕ → ℕ → ℕ → Type 0
 Stepped s w v n m i a q =
-    (x : Net) → Prime x → root x ≡ i → Held (showing s w) (headerAt w i .up) x
+    (x : Net) → Prime x → root x ≡ i → AllShow (showing s w) (headerAt w i .up) x
     → Turned s w v n m (foot x) (headerAt w i .up) i (move 0 (bare x)) a q
 
 -- a placed concurrent part on two packets or more, in some book

@@ -13,7 +13,7 @@ ghost use mathlib.Core.Path.{_≡_};
 ghost use lib.ListN.{length, replicate};
 ghost use Rattle.rules.specs.Reading.{bodyStart, fieldsOf};
 ghost use Rattle.rules.specs.Answers.{start, stopOf, resultRun, overwritten};
-ghost use Rattle.steps.specs.Standing.{Stands, Readable, Marked};
+ghost use Rattle.steps.specs.Standing.{Runnable, Readable, Marked};
 ghost use Rattle.area.specs.Words.{positions, areaWords};
 ghost use Rattle.machine.specs.Runs.{Playable, Started, Played};
 ghost use Rattle.machine.specs.Answered.{wordsOf, Freed};
@@ -32,7 +32,8 @@ fn free_all(work: &mut [u16])
 
 // The area made ready, and the main policy placed on the packet.
 fn set_up(book: &[u8], ends: &[u16], packet: &[u16], work: &mut [u16]) -> Tally
-    requires { ⌜ Readable (now book) × Stands (now book) (bodyStart (now book) 0) × Playable (now book) (start (now book) (now packet)) ⌝ }
+    requires { ⌜ Readable (now book) × Runnable (now book) (bodyStart (now book) 0)
+        × Playable (now book) (start (now book) (now packet)) ⌝ }
     requires { ⌜ (areaWords ≤ length (now work)) × (length (now packet) ≤ 8) × Marked (now book) (now ends) ⌝ }
     ensures { λ r. ⌜ Started (now (book .entry)) (now (work .entry)) (now (work .exit)) (r .free) (r .ready)
         (start (now (book .entry)) (now (packet .entry))) ⌝ }
@@ -91,7 +92,8 @@ pub fn conduct(
     result: &mut [u16],
     work: &mut [u16],
 ) -> Ran
-    requires { ⌜ Readable (now book) × Stands (now book) (bodyStart (now book) 0) × Playable (now book) (start (now book) (now packet)) ⌝ }
+    requires { ⌜ Readable (now book) × Runnable (now book) (bodyStart (now book) 0)
+        × Playable (now book) (start (now book) (now packet)) ⌝ }
     requires { ⌜ (areaWords ≤ length (now work)) × (length (now packet) ≤ 8) × (16 * fieldsOf (now book) ≤ length (now result)) ⌝ }
     ensures { λ r. ⌜ (r ≡ stopOf (now (book .entry)) (now (packet .entry)) (now (schedule .entry)))
         × (now (result .exit) ≡ resultRun r

@@ -19,7 +19,7 @@ use Rattle.rules.specs.States.{Spot, run}
 use Rattle.rules.specs.Answers.{startSet, startSpot, start}
 use Rattle.rules.specs.Places.{Everywhere, WrittenAt, BodiesAt, InPlace}
 use Rattle.rules.proofs.Decoding.{drop-head}
-use Rattle.rules.proofs.Standing.{Stands, entry-stands, start-stands, written-stands}
+use Rattle.rules.proofs.Standing.{EntryThere, entry-stands, start-stands, written-stands}
 use Rattle.rules.proofs.Whole.{FineBody}
 use Rattle.rules.proofs.FineLaws.{OfUses, no-uses, each-at}
 use Rattle.rules.proofs.Acceptance.{accepted}
@@ -99,7 +99,7 @@ module _ (P : Policy) (w : WellFormed P) where
   uses-written main (suc i) l u =
       let h = written-stands P .0 in
       let e : Entry = getD (P .tables) i noEntry in
-      let st : Stands s (suc i) e = rw zero-add at (entry-stands s (entries P) 0 (suc i) h (omega arith)) in
+      let st : EntryThere s (suc i) e = rw zero-add at (entry-stands s (entries P) 0 (suc i) h (omega arith)) in
       let q : startIn (firstBody m) (entries P) (suc i) ≡ bodyStart s (suc i)
       = rw zero-add at (start-stands s (entries P) 0 (suc i) h (omega arith)) in
       let f = each-at (λ e. OfBody (FineBody k m) (e .body)) (P .tables) i (w .bodies) (omega arith) in

@@ -12,16 +12,16 @@ use Rattle.rules.specs.Reading.{fieldsOf, tablesOf, lengthAt, readsAt, w
 use Rattle.rules.proofs.Decoding.{drop-head}
 
 -- e is what s says as entry x: its masks, its length, and its body's bytes where they belong
-pub record Stands (s : List ℕ) (x : ℕ) (e : Entry) : Type 0 where
+pub record EntryThere (s : List ℕ) (x : ℕ) (e : Entry) : Type 0 where
   pub reads : readsAt s x ≡ e .reads
   pub writes : writesAt s x ≡ e .writes
   pub size : lengthAt s x ≡ length (bytesOf (e .body))
   pub bytes : drop (bodyStart s x) s ≡ bytesOf (e .body) ++ drop (bodyStart s (suc x)) s
 
 -- these are the entries from x on
-abbrev pub AllStand : List ℕ → ℕ → List Entry → Type 0
-AllStand s x [] = Unit {0}
-AllStand s x (e ∷ es) = Stands s x e × AllStand s (suc x) es
+abbrev pub AllThere : List ℕ → ℕ → List Entry → Type 0
+AllThere s x [] = Unit {0}
+AllThere s x (e ∷ es) = EntryThere s x e × AllThere s (suc x) es
 
 drop-four : (s : List ℕ) (a : ℕ) → a + 4 ≤ length s
     → drop a s ≡ getD s a 0 ∷ getD s (a + 1) 0 ∷ getD s (a + 2) 0 ∷ getD s (a + 3) 0 ∷ drop (a + 4) s
@@ -41,7 +41,7 @@ drop-four s a h =
 module _ (s : List ℕ) where
   -- ---- entries that stand are written there
 
-  pub contents-stand : Bytes s → (es : List Entry) (x : ℕ) → AllStand s x es → 2 + 4 * (x + length es) ≤ length s
+  pub contents-stand : Bytes s → (es : List Entry) (x : ℕ) → AllThere s x es → 2 + 4 * (x + length es) ≤ length s
       → drop (2 + 4 * x) s ≡ contents es ++ drop (2 + 4 * (x + length es)) s
   unfolding contents
   contents-stand small [] x h le = rw (add-zero x)
@@ -57,7 +57,7 @@ module _ (s : List ℕ) where
       let en : 2 + 4 * x + 4 ≡ 2 + 4 * suc x = omega arith in
       four ∙ rw (hi, lo, er, ew, en, h .0 .reads, h .0 .writes, n, ih)
 
-  pub bodies-stand : (es : List Entry) (x : ℕ) → AllStand s x es
+  pub bodies-stand : (es : List Entry) (x : ℕ) → AllThere s x es
       → drop (bodyStart s x) s ≡ bodies es ++ drop (bodyStart s (x + length es)) s
   unfolding bodies
   bodies-stand [] x h = rw (add-zero x)
@@ -68,14 +68,14 @@ module _ (s : List ℕ) where
       ∙ sym (append-assoc b (bodies es) (drop (bodyStart s (suc x + length es)) s)))
 
   -- where the bodies end, and where each starts
-  pub ends-stand : (es : List Entry) (x : ℕ) → AllStand s x es → bodyStart s (x + length es) ≡ bodyStart s x + length (bodies es)
+  pub ends-stand : (es : List Entry) (x : ℕ) → AllThere s x es → bodyStart s (x + length es) ≡ bodyStart s x + length (bodies es)
   unfolding bodies bodyStart
   ends-stand [] x h = rw (add-zero x) (sym (add-zero (bodyStart s x)))
   ends-stand (e ∷ es) x h =
       let n : x + suc (length es) ≡ suc x + length es = omega arith in
       rw n (omega (arith, ends-stand es (suc x) (h .1), h .0 .size, length-append (bytesOf (e .body)) (bodies es)))
 
-  pub start-stands : (es : List Entry) (x i : ℕ) → AllStand s x es → i < length es → startIn (bodyStart s x) es i ≡ bodyStart s (x + i)
+  pub start-stands : (es : List Entry) (x i : ℕ) → AllThere s x es → i < length es → startIn (bodyStart s x) es i ≡ bodyStart s (x + i)
   unfolding startIn bodyStart
   start-stands [] x i h l = absurd (omega arith)
   start-stands (e ∷ es) x zero h l = rw (add-zero x)
@@ -84,7 +84,7 @@ module _ (s : List ℕ) where
       rw (← h .0 .size, n) (start-stands es (suc x) i (h .1) (omega arith))
 
   -- each of them
-  pub entry-stands : (es : List Entry) (x i : ℕ) → AllStand s x es → i < length es → Stands s (x + i) (getD es i noEntry)
+  pub entry-stands : (es : List Entry) (x i : ℕ) → AllThere s x es → i < length es → EntryThere s (x + i) (getD es i noEntry)
   entry-stands [] x i h l = absurd (omega arith)
   entry-stands (e ∷ es) x zero h l = rw (add-zero x) (h .0)
   entry-stands (e ∷ es) x (suc i) h l =
@@ -95,7 +95,7 @@ module _ (s : List ℕ) where
   entry-written : (x : ℕ) (e : Entry) (rest later : List ℕ)
       → drop (2 + 4 * x) s ≡ length (bytesOf (e .body)) / 256 ∷ length (bytesOf (e .body)) % 256 ∷ e .reads ∷ e .writes ∷ rest
       → drop (bodyStart s x) s ≡ bytesOf (e .body) ++ later
-      → Stands s x e × (drop (2 + 4 * suc x) s ≡ rest) × (drop (bodyStart s (suc x)) s ≡ later)
+      → EntryThere s x e × (drop (2 + 4 * suc x) s ≡ rest) × (drop (bodyStart s (suc x)) s ≡ later)
   unfolding bodyStart
   entry-written x e rest later c b =
       let l : ℕ = length (bytesOf (e .body)) in
@@ -120,7 +120,7 @@ module _ (s : List ℕ) where
       )
 
   pub stand-written : (es : List Entry) (x : ℕ) (rest later : List ℕ) → drop (2 + 4 * x) s ≡ contents es ++ rest
-      → drop (bodyStart s x) s ≡ bodies es ++ later → AllStand s x es
+      → drop (bodyStart s x) s ≡ bodies es ++ later → AllThere s x es
   unfolding contents bodies
   stand-written [] x rest later c b = tt
   stand-written (e ∷ es) x rest later c b =
@@ -137,7 +137,7 @@ contents-length (e ∷ es) = omega (arith, contents-length es)
 module _ (P : Policy) where
   -- a policy whose entries stand in s, to its end, is written as s
   pub book-stands : (s : List ℕ) → Bytes s → 2 ≤ length s → fieldsOf s ≡ P .fields → tablesOf s ≡ length (P .tables)
-      → AllStand s 0 (entries P) → bodyStart s (suc (tablesOf s)) ≡ length s → s ≡ writeBook P
+      → AllThere s 0 (entries P) → bodyStart s (suc (tablesOf s)) ≡ length s → s ≡ writeBook P
   unfolding writeBook entries bodyStart
   book-stands s small two k m h end =
       let es : List Entry = entries P in
@@ -152,7 +152,7 @@ module _ (P : Policy) where
       ∙ rw (c, b, k, m)
 
   -- the entries of a policy stand in the book that it is written as, to its end
-  pub written-stands : AllStand (writeBook P) 0 (entries P) × (bodyStart (writeBook P) (suc (length (P .tables))) ≡ length (writeBook P))
+  pub written-stands : AllThere (writeBook P) 0 (entries P) × (bodyStart (writeBook P) (suc (length (P .tables))) ≡ length (writeBook P))
   unfolding writeBook entries bodyStart
   written-stands =
       let s : List ℕ = writeBook P in
@@ -160,6 +160,6 @@ module _ (P : Policy) where
       let q : firstBody (length (P .tables)) ≡ 2 + length (contents es) = omega (arith, contents-length es) in
       let b : drop (bodyStart s 0) s ≡ bodies es ++ []
       = rw q (sym (drop-drop (length (contents es)) 2 s)) ∙ drop-append-seam (contents es) (bodies es) ∙ sym (append-nil (bodies es)) in
-      let h : AllStand s 0 es = stand-written s es 0 (bodies es) [] refl b in
+      let h : AllThere s 0 es = stand-written s es 0 (bodies es) [] refl b in
       let n : 0 + length es ≡ suc (length (P .tables)) = omega arith in
       (h, rw n at (ends-stand s es 0 h) ∙ omega (arith, length-append (contents es) (bodies es), contents-length es))

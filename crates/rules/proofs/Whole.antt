@@ -20,7 +20,7 @@ use Rattle.rules.specs.Reading.{readEntries, masksRight, partAt, bodyAt,
 use Rattle.rules.proofs.Decoding.{size-positive, Named, populated, unpopulated, Names, then-was}
 use Rattle.rules.proofs.ReadingLaws.{and-was}
 use Rattle.rules.proofs.Decoding.{body-read, body-reads}
-use Rattle.rules.proofs.Standing.{Stands, AllStand, start-stands, book-stands, written-stands}
+use Rattle.rules.proofs.Standing.{EntryThere, AllThere, start-stands, book-stands, written-stands}
 
 -- the tests 1 to 5
 pub record Readable (s : List ℕ) : Type 0 where
@@ -78,7 +78,7 @@ tables-get s (suc n) x zero l = let q : x + 0 ≡ x = omega arith in rw q
 tables-get s (suc n) x (suc i) l = let q : x + suc i ≡ suc x + i = omega arith in rw q (tables-get s n (suc x) i (omega arith))
 
 -- a policy's tables stand for the same as those of the book where its entries stand
-pub use-is : (s : List ℕ) (P : Policy) → AllStand s 0 (entries P) → tablesOf s ≡ length (P .tables)
+pub use-is : (s : List ℕ) (P : Policy) → AllThere s 0 (entries P) → tablesOf s ≡ length (P .tables)
     → P .tables ≡ tablesFrom s (length (P .tables)) 1 → (x : ℕ) → 0 < x → x ≤ length (P .tables) → tableOf P x ≡ useAt s x
 unfolding tableOf useAt entries bodyStart
 use-is s P h m t zero l u = absurd (omega arith)
@@ -94,7 +94,7 @@ use-is s P h m t (suc i) l u =
 -- ---- the masks of entries that stand
 
 module _ (s : List ℕ) where
-  masks-read : (es : List Entry) (x : ℕ) → AllStand s x es → masksRight s (length es) x ≡ true
+  masks-read : (es : List Entry) (x : ℕ) → AllThere s x es → masksRight s (length es) x ≡ true
       → OfEach (λ e. masksFit (fieldsOf s) (e .reads) (e .writes) ≡ true) es
   unfolding masksRight
   masks-read [] x h q = tt
@@ -102,7 +102,7 @@ module _ (s : List ℕ) where
       let w = and-was (masksFit (fieldsOf s) (readsAt s x) (writesAt s x)) (masksRight s (length es) (suc x)) q in
       (rw (← h .0 .reads, ← h .0 .writes) (w .0), masks-read es (suc x) (h .1) (w .1))
 
-  masks-reads : (es : List Entry) (x : ℕ) → AllStand s x es → OfEach (λ e. masksFit (fieldsOf s) (e .reads) (e .writes) ≡ true) es
+  masks-reads : (es : List Entry) (x : ℕ) → AllThere s x es → OfEach (λ e. masksFit (fieldsOf s) (e .reads) (e .writes) ≡ true) es
       → masksRight s (length es) x ≡ true
   unfolding masksRight
   masks-reads [] x h q = refl
@@ -125,7 +125,7 @@ FineBodies s = OfEach (λ e. OfBody (FineBody (fieldsOf s) (tablesOf s)) (e .bod
 
 module _ (s : List ℕ) (small : Bytes s) where
   abbrev TableRead : ℕ → Entry → Type 0
-  TableRead x e = Stands s x e × OfBody (FineBody (fieldsOf s) (tablesOf s)) (e .body)
+  TableRead x e = EntryThere s x e × OfBody (FineBody (fieldsOf s) (tablesOf s)) (e .body)
 
   table-as : (x : ℕ) (b : Option Part) → bodyAt s x ≡ b → TableRead x (record { reads = readsAt s x; writes = writesAt s x; body = b })
       → TableRead x (tableAt s x)
@@ -158,7 +158,7 @@ module _ (s : List ℕ) (small : Bytes s) where
           (record { reads = refl; writes = refl; size = omega (arith, w .1); bytes = w .2 }, w .3)
 
   tables-read : (n x a : ℕ) → readEntries s n (suc x) ≡ Next a → bodyStart s (suc x + n) ≤ length s
-      → AllStand s (suc x) (tablesFrom s n (suc x)) × FineBodies s (tablesFrom s n (suc x))
+      → AllThere s (suc x) (tablesFrom s n (suc x)) × FineBodies s (tablesFrom s n (suc x))
   unfolding readEntries tablesFrom
   tables-read zero x a q le = (tt, tt)
   tables-read (suc n) x a q le =
@@ -173,7 +173,7 @@ module _ (s : List ℕ) (small : Bytes s) where
   mainAt = record { reads = readsAt s 0; writes = writesAt s 0; body = some (mainOf s) }
 
   main-read : (a : ℕ) → readEntry s 0 ≡ Next a → bodyStart s 1 ≤ length s
-      → Stands s 0 mainAt × Fine (scopeOf (fieldsOf s) (tablesOf s) true) (useAt s) mostDepth false (mainOf s)
+      → EntryThere s 0 mainAt × Fine (scopeOf (fieldsOf s) (tablesOf s) true) (useAt s) mostDepth false (mainOf s)
   unfolding readEntry bytesOf bodyStart mainOf
   main-read a q le =
       let c : Scope = scopeOf (fieldsOf s) (tablesOf s) true in
@@ -184,7 +184,7 @@ module _ (s : List ℕ) (small : Bytes s) where
     -- the entries that s says, and their form
     abbrev pub EntriesRead : Type 0
     EntriesRead =
-        AllStand s 0 (entries (policyOf s)) × Fine (scopeOf (fieldsOf s) (tablesOf s) true) (useAt s) mostDepth false (mainOf s)
+        AllThere s 0 (entries (policyOf s)) × Fine (scopeOf (fieldsOf s) (tablesOf s) true) (useAt s) mostDepth false (mainOf s)
         × FineBodies s (tablesFrom s (tablesOf s) 1)
 
     pub entries-read : EntriesRead
@@ -222,7 +222,7 @@ module _ (s : List ℕ) (small : Bytes s) where
 -- ---- what is written is read
 
 module _ (s : List ℕ) where
-  table-reads : (x : ℕ) (e : Entry) → Stands s (suc x) e → OfBody (FineBody (fieldsOf s) (tablesOf s)) (e .body)
+  table-reads : (x : ℕ) (e : Entry) → EntryThere s (suc x) e → OfBody (FineBody (fieldsOf s) (tablesOf s)) (e .body)
       → (tableAt s (suc x) ≡ e) × ((a : ℕ) × (readEntry s (suc x) ≡ Next a))
   unfolding readEntry bodyAt bytesOf bodyStart
   table-reads x e h f = let w = go (e .body) (h .size) (h .bytes) f in (rw (h .reads, h .writes, w .0), w .1)
@@ -242,7 +242,7 @@ module _ (s : List ℕ) where
           let r = body-reads s c noUse start (bodyStart s (suc (suc x))) p (drop (bodyStart s (suc (suc x))) s) f w next in
           (rw (z, r .1), (bodyStart s (suc (suc x)), rw z (r .0)))
 
-  tables-reads : (es : List Entry) (x : ℕ) → AllStand s (suc x) es → FineBodies s es
+  tables-reads : (es : List Entry) (x : ℕ) → AllThere s (suc x) es → FineBodies s es
       → (tablesFrom s (length es) (suc x) ≡ es) × (readEntries s (length es) (suc x) ≡ Next (length s))
   unfolding readEntries tablesFrom
   tables-reads [] x h f = (refl, refl)
@@ -253,7 +253,7 @@ module _ (s : List ℕ) where
 
 module _ (P : Policy) (w : WellFormed P) where
   -- of any bytes in which the policy's entries stand
-  stand-reads : (s : List ℕ) → fieldsOf s ≡ P .fields → tablesOf s ≡ length (P .tables) → AllStand s 0 (entries P)
+  stand-reads : (s : List ℕ) → fieldsOf s ≡ P .fields → tablesOf s ≡ length (P .tables) → AllThere s 0 (entries P)
       → (policyOf s ≡ P) × (masksRight s (suc (tablesOf s)) 0 ≡ true) × (readEntries s (suc (tablesOf s)) 0 ≡ Next (length s))
   unfolding policyOf entries readEntries readEntry mainOf bytesOf bodyStart
   stand-reads s k m h =

@@ -21,7 +21,7 @@ use Rattle.links.proofs.Times.{same-self, times-append, live-foot}
 use Rattle.area.specs.declared.headers.Header.{Header}
 use Rattle.area.specs.Words.{positions, rowWords, nobody, negatedPhase, enteredPhase, headerAt, finishedHead, rowsAt, freeList, Headed}
 use Rattle.area.specs.Words.{Filled, HasSet}
-use Rattle.steps.specs.Standing.{partOf, joinOf, Stands, Readable, Marked}
+use Rattle.steps.specs.Standing.{partOf, joinOf, Runnable, Readable, Marked}
 use Rattle.steps.specs.State.{Laying, Laid, spotAt, partAt, setAt, entering, Turned, Entering}
 use Rattle.steps.proofs.Heads.{head-reads, from-next}
 use Rattle.steps.proofs.Standing.{inside, part-drop, part-test, part-set, sum-below, not-below, table-below}
@@ -188,7 +188,7 @@ module _ (s w : List ℕ) (n i : ℕ) (h : Entering s w n i 4) where
   abbrev place-of : ℕ
   place-of = headerAt w i .place
 
-  not-at : (partAt s w i ≡ Not (partOf s (place-of + 1))) × Stands s (place-of + 1)
+  not-at : (partAt s w i ≡ Not (partOf s (place-of + 1))) × Runnable s (place-of + 1)
   not-at = not-below (h .stands) (h .reads)
 
   not-tree : (f : ℕ) → entering s w i f

@@ -11,11 +11,11 @@ use Rattle.rules.specs.declared.Head.{Head}
 use Rattle.rules.specs.Codes.{operandsOf}
 use Rattle.rules.specs.Reading.{head, noHead, headAt}
 use Rattle.rules.proofs.ReadingLaws.{head-is}
-use Rattle.steps.specs.Standing.{Stands}
+use Rattle.steps.specs.Standing.{Runnable}
 use Rattle.steps.proofs.Standing.{inside}
 
 -- what stands behind the code byte
-pub record Reads (s : List ℕ) (at : ℕ) (p : Head) : Type 0 where
+pub record HeadReads (s : List ℕ) (at : ℕ) (p : Head) : Type 0 where
   pub code : p .code ≡ getD s at 0
   pub field : p .field ≡ head s at .field
   pub value : p .value ≡ head s at .value
@@ -23,11 +23,11 @@ pub record Reads (s : List ℕ) (at : ℕ) (p : Head) : Type 0 where
   pub table : p .table ≡ head s at .table
 
 -- past the end every byte is 0
-pub head-reads : (s : List ℕ) (at : ℕ) {p : Head} → p ≡ headAt s at → Reads s at p
+pub head-reads : (s : List ℕ) (at : ℕ) {p : Head} → p ≡ headAt s at → HeadReads s at p
 unfolding headAt
 head-reads s at {p} e = rw e (go (ltb at (length s)) refl)
   where
-    go : (there : Bool) → ltb at (length s) ≡ there → Reads s at (cond there (head s at) (noHead at))
+    go : (there : Bool) → ltb at (length s) ≡ there → HeadReads s at (cond there (head s at) (noHead at))
     go true h = record { code = refl; field = refl; value = refl; right = refl; table = refl }
     go false h =
         let l : length s ≤ at = ltb-false at (length s) h in
@@ -42,7 +42,7 @@ head-reads s at {p} e = rw e (go (ltb at (length s)) refl)
 pub code-at : (s : List ℕ) (at : ℕ) {c : ℕ} {p : Head} → p ≡ headAt s at → p .code ≡ c → getD s at 0 ≡ c
 code-at s at e q = sym (head-reads s at e .code) ∙ q
 
-pub from-next : {s : List ℕ} {at c : ℕ} {p : Head} → Stands s at → p ≡ headAt s at → getD s at 0 ≡ c → operandsOf c ≡ 0
+pub from-next : {s : List ℕ} {at c : ℕ} {p : Head} → Runnable s at → p ≡ headAt s at → getD s at 0 ≡ c → operandsOf c ≡ 0
     → p .from ≡ at + 1
 from-next {s} {at} {c} {p} h e q z =
     let f : p .from ≡ at + 1 + operandsOf (getD s at 0) = ap (λ (p : Head). p .from) (e ∙ head-is s at (inside h)) in

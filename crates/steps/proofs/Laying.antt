@@ -15,10 +15,10 @@ use Rattle.rules.specs.Reading.{after}
 use Rattle.rules.specs.States.{Spot, Tree, placed, done, waiting, negated, both, place, live}
 use Rattle.rows.specs.Chunks.{chunks}
 use Rattle.rows.proofs.Chunks.{length-chunks}
-use Rattle.steps.specs.Standing.{partOf, Stands, Marked}
+use Rattle.steps.specs.Standing.{partOf, Runnable, Marked}
 use Rattle.steps.proofs.Standing.{inside, code-small, part-id, part-rests, seq-below}
 use Rattle.links.specs.Nets.{Hold, waits, Net, rest, over, one, above, bare, root, foot, isOver, readyOf}
-use Rattle.links.specs.Nets.{nodeOf, Held, times}
+use Rattle.links.specs.Nets.{nodeOf, AllShow, times}
 use Rattle.links.proofs.Times.{same-self, times-append}
 use Rattle.steps.proofs.Changes.{below-one, below-small, times-one, headed-slots, headed-spares, headed-free, headed-ready}
 use Rattle.steps.proofs.Changes.{spares-then, spares-wider, in-none}
@@ -55,7 +55,7 @@ module _ (s w v : List ℕ) (n i up at src count f : ℕ) where
   pub laid-id : getD s at 0 ≡ 0 → n ≤ positions
       → Becomes w v i (record { place = at; phase = finishedPhase; count = count; up = up; left = 0; right = 0 }) (rowsAt w src count)
       → Laid s w v n n i up at src count nobody f
-  unfolding place bare root Held foot isOver shownBy
+  unfolding place bare root AllShow foot isOver shownBy
   laid-id z l b = record {
     makes = record {
       net = over i (rowsAt w src count);
@@ -71,10 +71,10 @@ module _ (s w v : List ℕ) (n i up at src count f : ℕ) where
   }
 
   -- it rests there
-  pub laid-rest : Stands s at → (getD s at 0 ≡ 0 → ⊥) → (getD s at 0 ≡ 6 → ⊥) → i < positions → n ≤ positions
+  pub laid-rest : Runnable s at → (getD s at 0 ≡ 0 → ⊥) → (getD s at 0 ≡ 6 → ⊥) → i < positions → n ≤ positions
       → Becomes w v i (record { place = at; phase = placedPhase; count = count; up = up; left = 0; right = 0 }) (rowsAt w src count)
       → Laid s w v n n i up at src count i f
-  unfolding bare root Held foot isOver readyOf shownBy
+  unfolding bare root AllShow foot isOver readyOf shownBy
   laid-rest h n0 n6 li l b = record {
     makes = record {
       net = rest i (spot at f) (partOf s at) (rowsAt w src count);
@@ -176,7 +176,7 @@ module _ (s w v : List ℕ) (n i up at src count c q : ℕ) (h : Laying s w n i 
 
   pub laid-seq : (u : List ℕ) (m r r′ f : ℕ) → Laid s v u (n - 1) m c i (at + 1) src count r f → r′ ≡ cond (eqb r nobody) i r
       → Laid s w u n m i up at src count r′ f
-  unfolding bare above root Held foot nodeOf times shownBy
+  unfolding bare above root AllShow foot nodeOf times shownBy
   laid-seq u m r r′ f d e =
       let M = d .makes in
       let x : Net = M .net in

@@ -11,7 +11,7 @@ use Rattle.rules.specs.Packets.{Packets}
 use Rattle.rules.specs.States.{Tree, Join, done, both, negated}
 use Rattle.rows.specs.Chunks.{chunks}
 use Rattle.steps.specs.Standing.{joinOf}
-use Rattle.links.specs.Nets.{waits, keeps, Net, rest, over, one, two, above, bare, root, foot, isOver, readyOf, Node, Two, nodeOf, Held}
+use Rattle.links.specs.Nets.{waits, keeps, Net, rest, over, one, two, above, bare, root, foot, isOver, readyOf, Node, Two, nodeOf, AllShow}
 use Rattle.links.specs.Nets.{times}
 use Rattle.links.proofs.Times.{same-self, times-append}
 use Rattle.links.proofs.Plugging.{Kept, held-kept}
@@ -68,7 +68,7 @@ after-given {w = w} {n = n} {c = c} l g M e d =
 pub over-made : (s w v : List ℕ) (n i up : ℕ) (h : Header) (x : Packets) → n ≤ positions → h .phase ≡ 1 → h .count ≡ length x → h .up ≡ up
     → Becomes w v i h x
     → Makes s w v n n (i ∷ []) up i (done x)
-unfolding bare root Held foot isOver shownBy
+unfolding bare root AllShow foot isOver shownBy
 over-made s w v n i up h x l p c u b = record {
   net = over i x;
   bare = refl;
@@ -176,7 +176,7 @@ module _ {s w v₁ v₂ v₃ : List ℕ} {n m₁ m₂ i l r : ℕ} {tl tr : Tree
   pub two-turned : enteredPhase ≤ h .phase → h .left ≡ l → h .right ≡ r → (a b z y : ℕ) → Offers (L .net) a → Offers (R .net) b
       → z ≡ cond (eqb a nobody) (cond (eqb b nobody) i b) a → y ≡ cond (eqb a nobody) nobody b
       → Turned s w v₃ n m₂ (i ∷ []) (h .up) i (both (joinOf s (h .phase - enteredPhase) (h .place)) tl tr) z y
-  unfolding bare root Held foot times
+  unfolding bare root AllShow foot times
   two-turned p el er a b z y oa ob ez ey =
       let fv = headed-free li H m₂ in
       record {
@@ -213,7 +213,7 @@ pub one-turned : {s w v u : List ℕ} {n m i c a z up pl count : ℕ} {t : Tree}
     → Headed v u i (record { place = pl; phase = negatedPhase; count = count; up = up; left = c; right = 0 })
     → Offers (L .net) a → z ≡ cond (eqb a nobody) i a
     → Turned s w u n m (i ∷ []) up i (negated (rowsAt w i count) t) z nobody
-unfolding bare above root Held foot nodeOf times shownBy isOver
+unfolding bare above root AllShow foot nodeOf times shownBy isOver
 one-turned {s} {w} {v} {u} {n} {m} {i} {c} {a} {z} {up} {pl} {count} {t} li few once top L H o ez =
     let X : Packets = rowsAt w i count in
     let ft : (k : ℕ) → times k (freeList w n) ≡ times k (freeList w (n - 1)) + times k (c ∷ []) =

@@ -15,7 +15,7 @@ use Rattle.rules.specs.Reading.{skip, after, head, headAt}
 use Rattle.rules.proofs.ReadingLaws.{head-is, row-small}
 use Rattle.rules.proofs.Decoding.{size-positive}
 use Rattle.book.proofs.PlaceLaws.{parts-few, after-none}
-use Rattle.steps.specs.Standing.{partOf, Stands, endBy, Marked}
+use Rattle.steps.specs.Standing.{partOf, Runnable, endBy, Marked}
 use Rattle.steps.proofs.Standing.{Two, inside, ends-at, code-small, not-below, sum-below, seq-below, beside-below}
 
 -- ---- the word made at a place
@@ -46,7 +46,7 @@ from-small s at {p} l e =
 
 -- ---- is the place after the part
 
-module _ (s m : List ℕ) (at : ℕ) (h : Stands s at) (known : (p : ℕ) → at < p → Stands s p → getD m p 0 ≡ after s mostDepth p) where
+module _ (s m : List ℕ) (at : ℕ) (h : Runnable s at) (known : (p : ℕ) → at < p → Runnable s p → getD m p 0 ≡ after s mostDepth p) where
   whole : (p : Part) → partOf s at ≡ p → after s mostDepth at ≡ at + size p
   whole p e = rw e at (ends-at h)
 
@@ -110,7 +110,7 @@ module _ (s m : List ℕ) (at : ℕ) (h : Stands s at) (known : (p : ℕ) → at
 pub record Marking (s m₀ m : List ℕ) (at : ℕ) : Type 0 where
   pub long : length m ≡ length m₀
   pub upto : at ≤ length s
-  pub ends : (p : ℕ) → at ≤ p → Stands s p → getD m p 0 ≡ after s mostDepth p
+  pub ends : (p : ℕ) → at ≤ p → Runnable s p → getD m p 0 ≡ after s mostDepth p
 
 pub marking-start : (s m : List ℕ) → Marking s m m (length s)
 marking-start s m = record { long = refl; upto = omega arith; ends = λ p l h. absurd (omega (arith, inside h)) }

@@ -8,7 +8,7 @@ use lib.Dec.{ltb, eqb}
 use borrow.Author.Tests.{ne-eqb, le-ltb}
 use Rattle.rules.specs.Packets.{Packets}
 use Rattle.links.specs.Nets.{Hold, waits, keeps, Net, rest, over, one, two, root, foot, isOver, Node, Rest, Over, Waits, Keeps, Two, nodeOf}
-use Rattle.links.specs.Nets.{Held, Frame, under, left, right, number, upOf, footIn, HeldIn, risen, news, times}
+use Rattle.links.specs.Nets.{AllShow, Frame, under, left, right, number, upOf, footIn, AllShowIn, risen, news, times}
 use Rattle.links.proofs.Times.{same-self, times-append, times-root}
 use Rattle.area.specs.declared.headers.Header.{Header}
 use Rattle.area.specs.Words.{positions, nobody, finishedPhase, enteredPhase, headerAt}
@@ -91,8 +91,8 @@ module _ {s w : List ℕ} {i up : ℕ} {x : Node} (o : Showing s w i up x) where
   right-shown = right-phase s (headerAt w i .phase) (headerAt w i) _ ∙ ap (λ (n : Node). rightNode n (headerAt w i .right)) (o .node)
 
 -- a net's root is finished where the net is
-done-root : (s w : List ℕ) (up : ℕ) (x : Net) → Held (showing s w) up x → doneAt w (root x) ≡ isOver x
-unfolding Held root isOver overNode nodeOf
+done-root : (s w : List ℕ) (up : ℕ) (x : Net) → AllShow (showing s w) up x → doneAt w (root x) ≡ isOver x
+unfolding AllShow root isOver overNode nodeOf
 done-root s w up (rest i o p r) h = done-node h
 done-root s w up (over i r) h = done-node h
 done-root s w up (one i (waits o q) n) h = done-node (h .0)
@@ -118,10 +118,10 @@ rise-right i L true B n el eb = let z = ne-eqb i nobody n in rw (z, el, eb) (rw 
 rise-right i L false B n el eb = let z = ne-eqb i nobody n in rw (z, el) refl
 
 -- once what fills the hole is finished
-pub risen-is : (s w : List ℕ) (c : List Frame) (x : Net) → isOver x ≡ true → Held (showing s w) (upOf nobody c) x
-    → HeldIn (showing s w) nobody c (root x) → ((k : ℕ) → 0 < times k (footIn c) → k < positions) → someone
+pub risen-is : (s w : List ℕ) (c : List Frame) (x : Net) → isOver x ≡ true → AllShow (showing s w) (upOf nobody c) x
+    → AllShowIn (showing s w) nobody c (root x) → ((k : ℕ) → 0 < times k (footIn c) → k < positions) → someone
     (risenAt w (upOf nobody c)) ≡ risen c
-unfolding HeldIn upOf number risen risenAt footIn times lowNode leftNode rightNode
+unfolding AllShowIn upOf number risen risenAt footIn times lowNode leftNode rightNode
 risen-is s w [] x e h k f = refl
 risen-is s w (under i g ∷ c) x e h k f =
     let n = ne-eqb i nobody (λ z. omega (arith, f i (omega (arith, same-self i)))) in
@@ -144,8 +144,9 @@ risen-is s w (right i j n ∷ c) x e h k f =
     ∙ ap (λ (q : Bool). cond q (i ∷ []) []) b
 
 -- what a step leaves is what the words say
-pub news-is : (s w : List ℕ) (c : List Frame) (x : Net) (a q : ℕ) → Offers₂ x a q → Held (showing s w) (upOf nobody c) x
-    → HeldIn (showing s w) nobody c (root x) → ((k : ℕ) → 0 < times k (footIn c) → k < positions) → newsAt w (upOf nobody c) a q ≡ news c x
+pub news-is : (s w : List ℕ) (c : List Frame) (x : Net) (a q : ℕ) → Offers₂ x a q → AllShow (showing s w) (upOf nobody c) x
+    → AllShowIn (showing s w) nobody c (root x) → ((k : ℕ) → 0 < times k (footIn c) → k < positions)
+    → newsAt w (upOf nobody c) a q ≡ news c x
 unfolding newsAt news
 news-is s w c x a q (ended₂ e z y) h k f = rw (z, e) (risen-is s w c x e h k f)
 news-is s w c x a q (offers₁ e z l d) h k f =
@@ -171,11 +172,11 @@ up-small (left i j m ∷ c) f = omega (arith, f i (omega (arith, same-self i)))
 up-small (right i j n ∷ c) f = omega (arith, f i (omega (arith, same-self i)))
 
 -- the two below the number above have numbers below positions
-pub two-below : (s w : List ℕ) (c : List Frame) (x : ℕ) → HeldIn (showing s w) nobody c x
+pub two-below : (s w : List ℕ) (c : List Frame) (x : ℕ) → AllShowIn (showing s w) nobody c x
     → ((k : ℕ) → 0 < times k (footIn c) → k < positions) → x < positions
     → upOf nobody c < positions → enteredPhase ≤ headerAt w (upOf nobody c) .phase
     → (headerAt w (upOf nobody c) .left < positions) × (headerAt w (upOf nobody c) .right < positions)
-unfolding HeldIn upOf number footIn times leftNode rightNode
+unfolding AllShowIn upOf number footIn times leftNode rightNode
 two-below s w [] x k f l u p = absurd (omega arith)
 two-below s w (under i g ∷ c) x k f l u p =
     absurd (false≢true (sym (le-ltb (headerAt w i .phase) enteredPhase p) ∙ low-shown (k .0) ∙ low-hold g x))

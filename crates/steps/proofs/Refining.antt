@@ -7,7 +7,7 @@ use lib.ListN.{length, drop, length-drop}
 use lib.Seq.{length-take-le}
 use Rattle.rules.specs.States.{Tree, move}
 use Rattle.rules.proofs.Choose.{stepAt, readies, move-at}
-use Rattle.links.specs.Nets.{Net, bare, root, foot, Held, Frame, plug, upOf, footIn, HeldIn, lefts, news, times}
+use Rattle.links.specs.Nets.{Net, bare, root, foot, AllShow, Frame, plug, upOf, footIn, AllShowIn, lefts, news, times}
 use Rattle.links.proofs.Times.{times-append, times-plug, times-root}
 use Rattle.links.proofs.Plugging.{plug-held, held-in-kept}
 use Rattle.links.proofs.ReadyOnes.{Found, find}
@@ -42,7 +42,7 @@ module _ {s w : List ℕ} {n r : ℕ} {t : Tree} (H : Holds s w n r t) where
     abbrev x : Net
     x = F .prime
 
-    whole : Held (showing s w) nobody (plug c x)
+    whole : AllShow (showing s w) nobody (plug c x)
     whole = rw (F .whole) at (H .held)
 
     once : Once (foot (plug c x)) (freeList w n)
@@ -55,7 +55,7 @@ module _ {s w : List ℕ} {n r : ℕ} {t : Tree} (H : Holds s w n r t) where
         let b = below-one k in
         (omega (arith, times-append k (foot x) (freeList w n)), below-small k (omega arith))
 
-    around : HeldIn (showing s v) nobody c (root x)
+    around : AllShowIn (showing s v) nobody c (root x)
     around = held-in-kept nobody c (root x) (kept-by (T .makes .else) outer) (plug-held (showing s w) nobody c x whole .1)
 
     same-news : newsAt v (upOf nobody c) a q ≡ news c (T .makes .net)

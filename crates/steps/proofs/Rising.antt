@@ -9,7 +9,7 @@ use lib.Seq.{take-at, drop-at, take-take, length-take-le}
 use Rattle.rules.specs.States.{Tree}
 use Rattle.rules.proofs.Choose.{stepAt}
 use Rattle.links.specs.Nets.{Net, bare, root, foot, isOver, readyOf}
-use Rattle.links.specs.Nets.{Held, Frame, plug, upOf, footIn, lefts, rights, news, times, Prime, rests, single, double}
+use Rattle.links.specs.Nets.{AllShow, Frame, plug, upOf, footIn, lefts, rights, news, times, Prime, rests, single, double}
 use Rattle.links.proofs.Times.{times-append, times-plug, length-plug}
 use Rattle.links.proofs.Plugging.{Kept, root-plug, held-kept, replaced}
 use Rattle.links.proofs.ReadyOnes.{ready-plug, ready-after, ready-few}
@@ -42,7 +42,7 @@ prime-ready single = refl
 prime-ready double = refl
 
 module _ {s w v : List ℕ} {n m r j : ℕ} (c : List Frame) (x : Net) (t : Tree) (own : Own x t)
-    (held : Held (showing s w) nobody (plug c x)) (once : Once (foot (plug c x)) (freeList w n))
+    (held : AllShow (showing s w) nobody (plug c x)) (once : Once (foot (plug c x)) (freeList w n))
     (size : length (foot (plug c x)) + n ≡ positions)
     (ready : readyList w r ≡ readyOf (plug c x)) (few : r ≤ positions) (area : areaWords ≤ length w)
     (top : root (plug c x) ≡ 0) (index : length (lefts c) ≡ j)

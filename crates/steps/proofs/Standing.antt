@@ -10,13 +10,14 @@ use mathlib.Core.Logic.{_⊎_, inl, inr}
 use lib.ListN.{length, getD, length-drop, length-append, List·getD-eq-default}
 use Rattle.rules.specs.Parts.{Part, Id, Drop, Test, Set, Not, Sum, Seq, Beside, Table, Open, write, size, namesOpen}
 use Rattle.rules.specs.Books.{mostDepth, Scope, scopeOf, useOf, Fine}
-use Rattle.rules.specs.Reading.{fieldsOf, tablesOf, readsAt, writesAt, numberAt, bodyStart, below, after, head, built, partAt, bodyAt, useAt}
+use Rattle.rules.specs.Reading.{fieldsOf, tablesOf, readsAt, writesAt, numberAt, bodyStart, below, after, head, built, partAt, bodyAt}
+use Rattle.rules.specs.Reading.{useAt}
 use Rattle.rules.specs.Packets.{Packets}
 use Rattle.rules.specs.States.{Spot, placed, place}
 use Rattle.rules.proofs.Decoding.{reads, drop-head, size-positive}
 use Rattle.rules.proofs.CodeLaws.{part-suc}
 use Rattle.rules.proofs.Inside.{Placed, placed-not, placed-sum, placed-seq, placed-beside}
-use Rattle.steps.specs.Standing.{partOf, Stands, Readable}
+use Rattle.steps.specs.Standing.{partOf, Runnable, Readable}
 
 -- a fine part may stand one deeper
 fine-deeper : (c : Scope) (n : ℕ → Part) (d : ℕ) (pred : Bool) (p : Part) → Fine c n d pred p → Fine c n (suc d) pred p
@@ -47,7 +48,7 @@ module _ (c : Scope) (n : ℕ → Part) (d : ℕ) (pred : Bool) where
 -- a fine part that is written at a place is the part there, and ends its size after it
 pub record Found (s : List ℕ) (at : ℕ) (p : Part) : Type 0 where
   pub same : partOf s at ≡ p
-  pub stands : Stands s at
+  pub stands : Runnable s at
   pub ends : after s mostDepth at ≡ at + size p
 
 found : {s : List ℕ} {at : ℕ} {main pred : Bool} {p : Part} → Placed s (scope s main) (useAt s) 31 pred at p → namesOpen p ≡ false
@@ -70,12 +71,12 @@ found {s} {at} {main} {pred} {p} h o =
     }
 
 -- what stands does so inside the book
-pub inside : {s : List ℕ} {at : ℕ} → Stands s at → at < length s
+pub inside : {s : List ℕ} {at : ℕ} → Runnable s at → at < length s
 inside {s} {at} h =
     omega (arith, size-positive (partOf s at), ap length (h .written), length-append (write (partOf s at)) (h .rest), length-drop at s)
 
 -- and ends its size after its place
-pub ends-at : {s : List ℕ} {at : ℕ} → Stands s at → after s mostDepth at ≡ at + size (partOf s at)
+pub ends-at : {s : List ℕ} {at : ℕ} → Runnable s at → after s mostDepth at ≡ at + size (partOf s at)
 ends-at {s} {at} h = reads s (scope s (h .main)) (useAt s) mostDepth (h .pred) at (partOf s at) (h .rest) (h .fine) (h .written) .2
 
 or-false : (a b : Bool) → (a || b) ≡ false → (a ≡ false) × (b ≡ false)
@@ -96,7 +97,7 @@ pair {p = p} {q = q} h o =
 
 -- ---- the parts below a part that stands, by what the part is
 
-module _ {s : List ℕ} {at : ℕ} (h : Stands s at) where
+module _ {s : List ℕ} {at : ℕ} (h : Runnable s at) where
   fine-as : (p : Part) → partOf s at ≡ p → Fine (scope s (h .main)) (useAt s) mostDepth (h .pred) p
   fine-as p e = rw e at (h .fine)
 
@@ -129,7 +130,7 @@ module _ {s : List ℕ} {at : ℕ} (h : Stands s at) where
 
   -- a use of a table: its body
   pub below-table : Readable s → (x r w start : ℕ) (p : Part) → partOf s at ≡ Table x r w start p
-      → (start ≡ bodyStart s x) × (partOf s start ≡ p) × Stands s start
+      → (start ≡ bodyStart s x) × (partOf s start ≡ p) × Runnable s start
   unfolding useAt
   below-table b x r w start p e =
       let f = fine-table (scope s (h .main)) (useAt s) 31 (h .pred) x r w start p (fine-as (Table x r w start p) e) in
@@ -137,7 +138,7 @@ module _ {s : List ℕ} {at : ℕ} (h : Stands s at) where
     where
       go : 0 < x → x ≤ tablesOf s → (o : Option Part) → bodyAt s x ≡ o
           → useOf x (readsAt s x) (writesAt s x) (bodyStart s x) o ≡ Table x r w start p
-          → (start ≡ bodyStart s x) × (partOf s start ≡ p) × Stands s start
+          → (start ≡ bodyStart s x) × (partOf s start ≡ p) × Runnable s start
       go l u none e q = let z : _≡_ {A = ℕ} 0 1 = cc in absurd (omega arith)
       go l u (some p′) e q =
           let a : start ≡ bodyStart s x = cc in
@@ -223,7 +224,7 @@ module _ (s : List ℕ) (at : ℕ) where
   part-rests o S h a b = rw (part-built (getD s at 0) refl) (built-rests o S first second (getD s at 0) h a b)
 
 -- what stands has one of the nine codes
-pub code-small : {s : List ℕ} {at : ℕ} → Stands s at → getD s at 0 ≤ 8
+pub code-small : {s : List ℕ} {at : ℕ} → Runnable s at → getD s at 0 ≤ 8
 unfolding write
 code-small {s} {at} h =
     elim (decLe (getD s at 0) 8) [
@@ -236,8 +237,8 @@ code-small {s} {at} h =
 
 -- ---- the parts below a part that stands, by its code byte: what the code that walks the book needs
 
-module _ {s : List ℕ} {at : ℕ} (h : Stands s at) where
-  pub not-below : getD s at 0 ≡ 4 → (partOf s at ≡ Not (partOf s (at + 1))) × Stands s (at + 1)
+module _ {s : List ℕ} {at : ℕ} (h : Runnable s at) where
+  pub not-below : getD s at 0 ≡ 4 → (partOf s at ≡ Not (partOf s (at + 1))) × Runnable s (at + 1)
   not-below e =
       let p = part-not s at e in
       let f = below-not h (first s at) p in
@@ -249,8 +250,8 @@ open-not x r w e = false≢true (sym e)
 
 -- two parts, the first at a place and the second where the code finds it
 pub record Two (s : List ℕ) (at : ℕ) : Type 0 where
-  pub left : Stands s at
-  pub right : Stands s (after s mostDepth at)
+  pub left : Runnable s at
+  pub right : Runnable s (after s mostDepth at)
   pub ends : after s mostDepth at ≡ at + size (partOf s at)
 
 two-of : (s : List ℕ) (at : ℕ) (p q : Part) → Pair s at p q → (partOf s at ≡ p) × (partOf s (after s mostDepth at) ≡ q) × Two s at
@@ -261,7 +262,7 @@ two-of s at p q h =
       record { left = h .first .stands; right = rw e (h .second .stands); ends = rw (h .first .same) e },
     )
 
-module _ {s : List ℕ} {at : ℕ} (h : Stands s at) where
+module _ {s : List ℕ} {at : ℕ} (h : Runnable s at) where
   pub sum-below : getD s at 0 ≡ 5 → (partOf s at ≡ Sum (partOf s (at + 1)) (partOf s (after s mostDepth (at + 1)))) × Two s (at + 1)
   sum-below e =
       let p = part-sum s at e in
@@ -285,7 +286,7 @@ module _ {s : List ℕ} {at : ℕ} (h : Stands s at) where
 
   pub table-below : Readable s → getD s at 0 ≡ 8 → (r w : ℕ) × (partOf s at
       ≡ Table (getD s (at + 1) 0) r w (bodyStart s (getD s (at + 1) 0)) (partOf s (bodyStart s (getD s (at + 1) 0))))
-      × Stands s (bodyStart s (getD s (at + 1) 0))
+      × Runnable s (bodyStart s (getD s (at + 1) 0))
   unfolding useAt
   table-below b e = go (bodyAt s (getD s (at + 1) 0)) (part-table s at e)
     where
@@ -293,7 +294,7 @@ module _ {s : List ℕ} {at : ℕ} (h : Stands s at) where
       x = getD s (at + 1) 0
 
       go : (o : Option Part) → partOf s at ≡ useOf x (readsAt s x) (writesAt s x) (bodyStart s x) o
-          → (r w : ℕ) × (partOf s at ≡ Table x r w (bodyStart s x) (partOf s (bodyStart s x))) × Stands s (bodyStart s x)
+          → (r w : ℕ) × (partOf s at ≡ Table x r w (bodyStart s x) (partOf s (bodyStart s x))) × Runnable s (bodyStart s x)
       go none e = absurd (open-not x (readsAt s x) (writesAt s x) (closed-as h (Open x (readsAt s x) (writesAt s x)) e))
       go (some p) e =
           let k = below-table h b x (readsAt s x) (writesAt s x) (bodyStart s x) p e in

@@ -22,7 +22,7 @@ joinOf s (suc zero) at = split
 joinOf s (suc (suc k)) at = paired (head s at .left) (head s at .right)
 
 -- the part at a place is well formed, written there, and names no unpopulated table
-pub record Stands (s : List ℕ) (at : ℕ) : Type 0 where
+pub record Runnable (s : List ℕ) (at : ℕ) : Type 0 where
   pub main : Bool
   pub pred : Bool
   pub rest : List ℕ
@@ -34,7 +34,8 @@ pub record Stands (s : List ℕ) (at : ℕ) : Type 0 where
 pub record Readable (s : List ℕ) : Type 0 where
   pub fields : fieldsOf s ≤ mostFields
   pub short : length s ≤ mostBytes
-  pub bodies : (x : ℕ) (p : Part) → 0 < x → x ≤ tablesOf s → bodyAt s x ≡ some p → (partOf s (bodyStart s x) ≡ p) × Stands s (bodyStart s x)
+  pub bodies : (x : ℕ) (p : Part) → 0 < x → x ≤ tablesOf s → bodyAt s x ≡ some p
+      → (partOf s (bodyStart s x) ≡ p) × Runnable s (bodyStart s x)
 
 -- ---- a table of the places where parts end
 
@@ -44,4 +45,4 @@ endBy s m at = skip (partsOf (getD s at 0)) (λ q. getD m q 0) (below s at)
 
 -- m has the place after each part that stands in the book, at the part's own place
 pub record Marked (s m : List ℕ) : Type 0 where
-  pub ends : (at : ℕ) → Stands s at → getD m at 0 ≡ after s mostDepth at
+  pub ends : (at : ℕ) → Runnable s at → getD m at 0 ≡ after s mostDepth at

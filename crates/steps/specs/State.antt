@@ -9,8 +9,8 @@ use Rattle.rules.specs.Packets.{Packets, Ascending, keep, lacks, mostPackets}
 use Rattle.rules.specs.Parts.{Part}
 use Rattle.rules.specs.Books.{mostBytes}
 use Rattle.rules.specs.States.{Tree, Spot, place, enter, join, live}
-use Rattle.steps.specs.Standing.{partOf, joinOf, Stands}
-use Rattle.links.specs.Nets.{Net, Node, Rest, Over, Waits, Keeps, Two, Shows, Held, bare, root, foot, isOver, readyOf, times}
+use Rattle.steps.specs.Standing.{partOf, joinOf, Runnable}
+use Rattle.links.specs.Nets.{Net, Node, Rest, Over, Waits, Keeps, Two, Shows, AllShow, bare, root, foot, isOver, readyOf, times}
 use Rattle.area.specs.declared.headers.Header.{Header}
 use Rattle.area.specs.Words.{positions, areaWords, nobody, enteredPhase, headerAt, slotAt, rowsAt, readyList, freeList}
 use Rattle.area.specs.Words.{pastArea}
@@ -53,7 +53,7 @@ pub record Makes (s w v : List ℕ) (n m : ℕ) (a : List ℕ) (up i : ℕ) (t :
   pub net : Net
   pub bare : bare net ≡ t
   pub root : root net ≡ i
-  pub held : Held (showing s v) up net
+  pub held : AllShow (showing s v) up net
   pub count : (k : ℕ) → times k (foot net) + times k (freeList v m) ≡ times k a + times k (freeList w n)
   pub size : length (foot net) + m ≡ length a + n
   pub else : Spares w v (a ++ freeList w n)
@@ -72,7 +72,7 @@ pub record Holds (s w : List ℕ) (n r : ℕ) (t : Tree) : Type 0 where
   pub net : Net
   pub bare : bare net ≡ t
   pub root : root net ≡ 0
-  pub held : Held (showing s w) nobody net
+  pub held : AllShow (showing s w) nobody net
   pub once : Once (foot net) (freeList w n)
   pub size : length (foot net) + n ≡ positions
   pub ready : readyList w r ≡ readyOf net
@@ -86,7 +86,7 @@ pub data Offers (x : Net) (r : ℕ) : Type 0 where
 
 -- the part at a place is placed at number i, on packets of the slot `src`: it stands in the book, and there is room for its positions
 pub record Laying (s w : List ℕ) (n i at src count : ℕ) : Type 0 where
-  pub stands : Stands s at
+  pub stands : Runnable s at
   pub short : length s ≤ mostBytes
   pub there : i < positions
   pub few : n ≤ positions
@@ -128,7 +128,7 @@ pub record Turned (s w v : List ℕ) (n m : ℕ) (a : List ℕ) (up i : ℕ) (t 
 
 -- a part of this code is placed at number i, and can be stepped
 pub record Entering (s w : List ℕ) (n i code : ℕ) : Type 0 where
-  pub stands : Stands s (headerAt w i .place)
+  pub stands : Runnable s (headerAt w i .place)
   pub short : length s ≤ mostBytes
   pub there : i < positions
   pub few : n ≤ positions
@@ -141,7 +141,7 @@ pub record Entering (s w : List ℕ) (n i code : ℕ) : Type 0 where
 
 -- p ; q at number i, where p is finished at number c
 pub record Taking (s w : List ℕ) (n i c : ℕ) : Type 0 where
-  pub stands : Stands s (headerAt w i .place)
+  pub stands : Runnable s (headerAt w i .place)
   pub short : length s ≤ mostBytes
   pub below : headerAt w i .left ≡ c
   pub once : Once (i ∷ c ∷ []) (freeList w n)

@@ -19,7 +19,8 @@ returns c =
     let at-shape-of = c .before .before .before in
     let at-byte-at = at-shape-of .before in
     let start = at-byte-at .before .before .before in
-    head-there _ _ _ _ _ _ (start .pre) (at-byte-at .byte-at .ensures) (c .before .before .number-at .ensures) (c .before .byte-at2 .ensures)
+    head-there _ _ _ _ _ _ (start .pre) (at-byte-at .byte-at .ensures) (c .before .before .number-at .ensures)
+    (c .before .byte-at2 .ensures)
     (at-shape-of .shape-of .ensures)
 
 pub cut-head-spec : {M : Type 1} → statement M

@@ -12,7 +12,8 @@ returns : tie.Need-returns
 returns c =
     let start = c .before .before in
     let a = start .args in
-    masks-small _ _ _ (start .pre) (absent-small (a .s .now) _ (a .at + 1) (omega arith)) (absent-small (a .s .now) _ (a .at + 2) (omega arith))
+    masks-small _ _ _ (start .pre) (absent-small (a .s .now) _ (a .at + 1) (omega arith))
+    (absent-small (a .s .now) _ (a .at + 2) (omega arith))
 
 returns-2 : tie.Need-returns-2
 returns-2 c =

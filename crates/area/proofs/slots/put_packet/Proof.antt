@@ -14,7 +14,8 @@ returns c =
     let s = k .before .before .before .before in
     let a = s .args in
     let l : length a.t3 ≤ 8 = search needs in
-    rowed (back _ _ (k .put-row .last .0) (s .pre .0) (s .pre .1) (k .put-row .kept .0)) (omega arith) (take-all 8 a.t3 l) (k .put-row .ensures)
+    rowed (back _ _ (k .put-row .last .0) (s .pre .0) (s .pre .1) (k .put-row .kept .0)) (omega arith) (take-all 8 a.t3 l)
+    (k .put-row .ensures)
 
 pub put-packet-spec : {M : Type 1} → statement M
 put-packet-spec =

@@ -14,6 +14,11 @@ take-free-requires-2 : tie.Need-take-free-requires-2
 take-free-requires-2 c κs = let h = c .before .before .before .before .before .before .before .before .pre .0 in
     (omega (arith, sum-room _ _ _ _ h), omega (arith, h .few), h .area)
 
+sub-lay : tie.Need-sub-lay
+sub-lay c =
+    let own = c .before .before .before .before .before .before .before .before in
+    omega (arith, sum-room _ _ _ _ (own .before .before .before .before .before .pre .0))
+
 lay-requires : tie.Need-lay-requires
 lay-requires c κs =
     let part = c .before .before .before .before in
@@ -26,6 +31,12 @@ lay-requires c κs =
           (left-lays _ _ _ _ (p .0) _ _ (first .take-free .ensures) (second .take-free2 .ensures)),
       p .1,
     )
+
+cast-lay-2 : tie.Need-cast-lay-2
+cast-lay-2 c =
+    let left = c .before .before .before .before in
+    let own = left .before .before .before .before .before .before .before .before .before .before in
+    omega (arith, own .before .before .before .before .before .pre .0 .there)
 
 lay-requires-2 : tie.Need-lay-requires-2
 lay-requires-2 c κs =
@@ -56,7 +67,8 @@ put-head-requires : tie.Need-put-head-requires
 put-head-requires c κs =
     let right = c .before .before .before in
     let left = right .before .before .before .before .before in
-    let h = left .before .before .before .before .before .before .before .before .before .before .before .before .before .before .before .pre .0 in
+    let own = left .before .before .before .before .before .before .before .before .before .before in
+    let h = own .before .before .before .before .before .pre .0 in
     (h .there, omega (arith, h .area, left .lay .ensures 0 .makes .else .long, right .lay2 .ensures 0 .makes .else .long))
 
 returns : tie.Need-returns
@@ -91,12 +103,12 @@ enter-sum-spec =
     (λ c κs. search needs)
     (λ c κs. search needs)
     (λ c κs. search needs)
-    (λ c. omega (arith, sum-room _ _ _ _ (c .before .before .before .before .before .before .before .before .before .before .before .before .before .pre .0)))
+    sub-lay
     (λ c κs. search needs)
     (λ c. search needs)
     lay-requires
     (λ c κs. search needs)
-    (λ c. omega (arith, c .before .before .before .before .before .before .before .before .before .before .before .before .before .before .before .before .before .before .before .pre .0 .there))
+    cast-lay-2
     lay-requires-2
     cast-put-head
     put-head-requires

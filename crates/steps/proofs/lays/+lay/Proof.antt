@@ -58,7 +58,8 @@ module _ (t : ℕ) where
   sub-lay c =
       let test = c .before .before .before .before .before .before .before .before in
       let code = test .before .before in
-      omega (arith, seq-room _ _ _ _ _ _ _ (code .before .before .before .before .pre .1 .0) (code-at _ _ (code .head-at .ensures) (test .if1 .taken)))
+      let h = code .before .before .before .before .pre .1 .0 in
+      omega (arith, seq-room _ _ _ _ _ _ _ h (code-at _ _ (code .head-at .ensures) (test .if1 .taken)))
 
   cast-lay : lay-lts.Need-cast-lay calls (at walk t) lay.Post
   cast-lay c =
@@ -116,7 +117,8 @@ module _ (t : ℕ) where
       let leaf = c .before .before in
       let code = leaf .before .before .before .before .before .before in
       let h = code .before .before .before .before .pre .1 .0 in
-      λ f. laid-id _ _ _ _ _ _ _ _ _ f (code-at _ _ (code .head-at .ensures) (leaf .before .before .if2 .taken)) (h .few) (leaf .lay-leaf .ensures)
+      λ f. laid-id _ _ _ _ _ _ _ _ _ f (code-at _ _ (code .head-at .ensures) (leaf .before .before .if2 .taken)) (h .few)
+      (leaf .lay-leaf .ensures)
 
   cast-lay-leaf-2 : lay-lts.Need-cast-lay-leaf-2 calls (at walk t) lay.Post
   cast-lay-leaf-2 c = omega (arith, laying-short (c .before .before .before .before .before .before .before .before .before .pre .1 .0))
@@ -132,7 +134,8 @@ module _ (t : ℕ) where
       let code = leaf .before .before .before .before .before .before in
       let h = code .before .before .before .before .pre .1 .0 in
       let e = head-reads _ _ (code .head-at .ensures) .code in
-      λ f. laid-rest _ _ _ _ _ _ _ _ _ f (h .stands) (λ z. leaf .before .before .if2 .left (e ∙ z)) (λ z. leaf .before .before .before .before .if1 .left (e ∙ z)) (h .there)
+      λ f. laid-rest _ _ _ _ _ _ _ _ _ f (h .stands) (λ z. leaf .before .before .if2 .left (e ∙ z))
+      (λ z. leaf .before .before .before .before .if1 .left (e ∙ z)) (h .there)
       (h .few) (leaf .lay-leaf2 .ensures)
 
 pub +lay-spec : {M : Type 1} → statement M

@@ -21,14 +21,16 @@ returns-2 : tie.Need-returns-2
 returns-2 c =
     let shape = c .before .before .before in
     let part = shape .before in
-    end-one _ _ _ (part .before .before .before .pre .0) _ (part .head-at .ensures) _ (shape .shape-of .ensures) _ (c .before .end-at .ensures) (c .if2 .taken)
+    end-one _ _ _ (part .before .before .before .pre .0) _ (part .head-at .ensures) _ (shape .shape-of .ensures) _
+    (c .before .end-at .ensures) (c .if2 .taken)
 
 returns-3 : tie.Need-returns-3
 returns-3 c =
     let first = c .before .before .before in
     let shape = first .before .before in
     let part = shape .before in
-    end-two _ _ _ (part .before .before .before .pre .0) _ (part .head-at .ensures) _ (shape .shape-of .ensures) _ _ (first .end-at .ensures)
+    end-two _ _ _ (part .before .before .before .pre .0) _ (part .head-at .ensures) _ (shape .shape-of .ensures) _ _
+    (first .end-at .ensures)
     (rw (c .before .wide .ensures) at (c .end-at2 .ensures)) (first .before .if1 .left) (c .before .before .if2 .left)
 
 pub end-by-spec : {M : Type 1} → statement M
