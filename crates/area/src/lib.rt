@@ -1,5 +1,7 @@
 // The words of the working area: positions that never move, each with a header and a slot of packets; a list of ready numbers and one
 // of free numbers. The layout is two numbers, and what follows from them.
+#![tactic(auto)]
+
 mod headers;
 mod joins;
 mod lists;

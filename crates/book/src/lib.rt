@@ -1,5 +1,7 @@
 // A book's bytes: numbers, the head of a part and its operands, the place after a part, where a body starts, and the tests 1, 2
 // and 4 of its layout. What stands where behind a code byte is known here alone. The public functions ask nothing of the bytes.
+#![tactic(auto)]
+
 ghost use Rattle.std.specs.Prelude.{◌≡◌, ◌&&◌, suc, ◌+◌, ◌*◌, ◌≤◌, ◌<◌, leb, get_or, length};
 ghost use Rattle.rules.specs.Masks.{in_fields};
 ghost use Rattle.rules.specs.Books.{masks_fit, most_fields, most_tables, most_bytes};

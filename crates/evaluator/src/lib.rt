@@ -1,6 +1,8 @@
 // The evaluator: one packet through a book (document 01, "Meaning", "Steps" and the numbers 8, 12, 9, 10).
 // evaluate_part and the functions of the codes call each other; all that they combine is done by functions outside that cycle. Each set is
 // a PacketSet by value; lent down the cycle is its array, with the number of its packets and their fields.
+#![tactic(auto)]
+
 ghost use Rattle.std.specs.Prelude.{◌≡◌, true, false, List, [], ◌∷◌, ℕ, ◌≤◌, max, length, take, drop};
 ghost use Rattle.rules.specs.declared.Verdict.TheVariants.{Accepted};
 ghost use Rattle.rules.specs.Packets.{places, Packets, keep, lacks};

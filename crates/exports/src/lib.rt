@@ -1,5 +1,7 @@
 // Faces with C linkage: thin, on byte and word slices and numbers. A slice passes as a pointer and then its length.
 // Each answers a code (0: answered, 100: running, else the number that turns the call away) and lays values in the caller's words.
+#![tactic(auto)]
+
 ghost use Rattle.std.specs.Prelude.{◌≡◌, ◌≤◌, length, take};
 ghost use Rattle.rules.specs.Answers.{refusal_says, verdict_says, evaluated_says, ran_says, overwritten};
 ghost use Rattle.exports.specs.Faces.{Shows, AcceptFace, EvaluateFace, RunFace};

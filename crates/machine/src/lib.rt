@@ -1,5 +1,7 @@
 // The step machine: a policy run under a schedule of choices, in a lent working area.
 // The area's words (headers, ready numbers, free numbers, slots) and the steps on them stand in crates area and steps.
+#![tactic(auto)]
+
 mod advance;
 mod beside;
 mod ends;

@@ -1,4 +1,6 @@
 // The run printer: a book, a packet and a schedule from standard input, and the run's answer to standard output.
+#![tactic(auto)]
+
 mod lines;
 mod text;
 

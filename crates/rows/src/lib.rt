@@ -1,5 +1,7 @@
 // Rows of 8 to 16 values in arrays of sixteen rows: read, written, compared and changed. The width is a number that each function is
 // given; a row moves as two blocks of eight, which overlap in a row of less than sixteen, the second only where there are more than eight.
+#![tactic(auto)]
+
 ghost use Rattle.std.specs.Prelude.{◌≡◌, cond, List, [], ◌++◌, ℕ, ◌+◌, ◌*◌, ◌%◌, ◌<◌, ◌≤◌, length, take, drop, get_or};
 ghost use Rattle.std.proofs.Math.Seq.{paste};
 ghost use Rattle.rules.specs.Packets.{places, most_packets, padded, order_of, passes, put, mix, without, values_of};

@@ -3,7 +3,7 @@
 use Prim.Native.Nat.{ℕ, zero, suc, ◌+◌, ◌<◌, ◌≤◌}
 use native.Mathlib.Omega.{arith}
 use native.Mathlib.Nat.{zero-add}
-use mathlib.Core.Path.{◌≡◌, refl, sym, ap, ◌∙◌}
+use mathlib.Core.Path.{◌≡◌, refl, sym, subst, ap, ◌∙◌}
 use mathlib.Core.Bool.{Bool, true, false, cond, false≢true}
 use mathlib.Core.List.{List, [], ◌∷◌, ◌++◌}
 use mathlib.Core.Option.{Option, none, some}
@@ -263,7 +263,8 @@ module _ (P : Policy) (w : WellFormed P) where
       let f : Fine c (table_of P) most_depth false P.main = rw (k, m) w.main in
       let r = body_reads s c (use_at s) (body_start s 0) (body_start s 1) P.main (drop (body_start s 1) s)
       (fine_same c (table_of P) (use_at s) same most_depth false P.main f) h.0.bytes (omega (arith, h.0.size)) in
-      let masks : OfEach (λ e. masks_fit (fields_of s) e.reads e.writes ≡ true) (entries P) = rw k w.masks in (
+      let masks : OfEach (λ e. masks_fit (fields_of s) e.reads e.writes ≡ true) (entries P) =
+      subst (λ (f : ℕ). OfEach (λ e. masks_fit f e.reads e.writes ≡ true) (entries P)) (sym k) w.masks in (
         rw (h.0.reads, h.0.writes, r.1, m, k, t.0),
         rw m (masks_reads s (entries P) 0 h masks),
         rw (r.0, m) t.1,

@@ -1,11 +1,13 @@
 // The types that every layer's answers are made of, the limits, and the one table of codes of document 01.
 // What the words mean stands under specs/, and what is shown of it under proofs/.
+#![tactic(auto)]
+
 ghost use Rattle.std.specs.Prelude.{◌≡◌};
 ghost use Rattle.rules.specs.Codes.{shape_at};
 ghost use Rattle.rules.specs.Checks.{no_place, number_of};
 
 // How one packet lies to another.
-#[derive(Drop)]
+#[derive(Clone, Copy)]
 pub enum Order {
     Less,
     Same,
@@ -13,7 +15,7 @@ pub enum Order {
 }
 
 // Operand bytes of a code, and how many parts stand below it.
-#[derive(Drop)]
+#[derive(Clone, Copy)]
 pub struct Shape {
     pub operands: usize,
     pub parts: usize,
@@ -21,7 +23,7 @@ pub struct Shape {
 
 // The head of a part: its code, its operands by what each code takes them for (field and value of a test or set, the fields that
 // each side of a concurrent part may write, the table that is used), and where the parts below it begin.
-#[derive(Drop)]
+#[derive(Clone, Copy)]
 pub struct Head {
     pub code: u8,
     pub field: u8,
@@ -33,14 +35,14 @@ pub struct Head {
 }
 
 // Next place, or the place of the first byte that cannot stand there.
-#[derive(Drop)]
+#[derive(Clone, Copy)]
 pub enum Reading {
     Next(usize),
     Wrong(usize),
 }
 
 // Why a call is turned away: document 01, "Numbers that turn a call away", 1 to 14 in order.
-#[derive(Drop)]
+#[derive(Clone, Copy)]
 pub enum Reason {
     BookLength,
     Counts,
@@ -59,14 +61,14 @@ pub enum Reason {
 }
 
 // Why, and where in the book: 0 but for three reasons.
-#[derive(Drop)]
+#[derive(Clone, Copy)]
 pub struct Refusal {
     pub reason: Reason,
     pub place: usize,
 }
 
 // What an accepted book says of itself: k, m, n and D.
-#[derive(Drop)]
+#[derive(Clone, Copy)]
 pub struct Sizes {
     pub fields: usize,
     pub tables: usize,
@@ -74,14 +76,14 @@ pub struct Sizes {
     pub deep: usize,
 }
 
-#[derive(Drop)]
+#[derive(Clone, Copy)]
 pub enum Verdict {
     Accepted(Sizes),
     Refused(Refusal),
 }
 
 // What the evaluator answers beside the packets: their count, N, n, D and the room.
-#[derive(Drop)]
+#[derive(Clone, Copy)]
 pub struct Outcome {
     pub count: usize,
     pub steps: u64,
@@ -90,27 +92,27 @@ pub struct Outcome {
     pub room: u64,
 }
 
-#[derive(Drop)]
+#[derive(Clone, Copy)]
 pub enum Evaluated {
     Given(Outcome),
     NotGiven(Refusal),
 }
 
 // A finished run: steps made and packets; an unfinished one: steps made, live and ready positions.
-#[derive(Drop)]
+#[derive(Clone, Copy)]
 pub struct Finish {
     pub steps: usize,
     pub count: usize,
 }
 
-#[derive(Drop)]
+#[derive(Clone, Copy)]
 pub struct Progress {
     pub steps: usize,
     pub live: usize,
     pub ready: usize,
 }
 
-#[derive(Drop)]
+#[derive(Clone, Copy)]
 pub enum Ran {
     Finished(Finish),
     Running(Progress),

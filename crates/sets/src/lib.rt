@@ -1,5 +1,7 @@
 // Packet sets (document 01, "Packets and sets"): the struct that holds one by value, and what is done to the packets of a lent array with
 // room for 16, in place: kept, set, put in, joined, taken away and paired. There a row has r places; no function works on the places.
+#![tactic(auto)]
+
 ghost use Rattle.std.specs.Prelude.{◌≡◌, true, [], ◌∷◌, map, ◌+◌, ◌<◌, ◌≤◌, length, take, get_or};
 ghost use Rattle.std.proofs.Math.Seq.{slice};
 ghost use Rattle.rules.specs.Masks.{all_fields, less};

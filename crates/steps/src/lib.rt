@@ -1,4 +1,6 @@
 // The steps of a machine on the words of the area: a part placed, entered, and left when those below it are finished.
+#![tactic(auto)]
+
 mod enters;
 mod lays;
 mod leaves;

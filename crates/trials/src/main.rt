@@ -1,5 +1,7 @@
 // The trials: runs every vector of standard input through accept, evaluate and run, compares all that they answer and leave with what
 // the vector states, and prints how many there are, how many differ, and how often each number is met.
+#![tactic(auto)]
+
 mod answers;
 mod judging;
 mod tallies;

@@ -8,6 +8,8 @@
 //   the concurrent parts above it.
 // - marks: at 0 the first concurrent part that is not right, one more than its place, 0 if none; at 1 the deepest concurrent nesting.
 // - uses: at x how often table x was used, at 16 + x the deepest concurrent nesting at a use of it.
+#![tactic(auto)]
+
 ghost use Rattle.std.specs.Prelude.{◌≡◌, true, false, cond, not, suc, max, ◌+◌, ◌*◌, ◌≤◌, ◌<◌, eqb, get_or, length, set};
 ghost use Rattle.std.specs.Int.Bits.{bit_or};
 ghost use Rattle.rules.specs.Codes.{operands_of, parts_of};
