@@ -1,0 +1,25 @@
+-- `read_operands` meets its contract: one law for each answer. Assumes nothing.
+use native.Mathlib.Omega.{arith}
+use Rattle.book.proofs.PlaceLaws.{operands_few}
+use Rattle.book.proofs.OperandLaws.{read_past, read_wrong, read_cut, read_next}
+use Rattle.book.proofs.read_operands.Goals as goal
+
+pub returns-then-s-at : goal.returns-then-s-at
+returns-then-s-at c =
+    read_past _ _ _ _ _ c.if-s-at.true
+
+pub returns-then-wrong-ne0 : goal.returns-then-wrong-ne0
+returns-then-wrong-ne0 c =
+    read_wrong _ _ _ _ _ _ c.if-wrong-ne0.true c.operand_wrong-wrong.ensures
+
+pub overflow_add-end-2 : goal.overflow_add-end-2
+overflow_add-end-2 c =
+    omega (arith, operands_few c.args.code _ c.shape_of-shape.ensures, c.if-s-at.false, c.well_formed.0.1)
+
+pub returns-then-s-end : goal.returns-then-s-end
+returns-then-s-end c =
+    read_cut _ _ _ _ _ _ c.if-wrong-ne0.false c.operand_wrong-wrong.ensures _ c.shape_of-shape.ensures c.if-s-end.true
+
+pub returns : goal.returns
+returns c =
+    read_next _ _ _ _ _ _ c.if-wrong-ne0.false c.operand_wrong-wrong.ensures _ c.shape_of-shape.ensures c.if-s-end.false
