@@ -1,0 +1,13 @@
+-- By whether there is a packet j.
+use native.Mathlib.Omega.{arith}
+use Rattle.rows.specs.Chunks.{rows_of}
+use Rattle.rows.proofs.Chunks.{length_rows_lem}
+use Rattle.sets.proofs.Rows.{slice_at}
+use borrow.Author.Rules.{rules}
+use Rattle.sets.proofs.weigh_out.Goals as goal
+
+pub returns-then-j-m : goal.returns-then-j-m
+returns-then-j-m c =
+    let a = c.args in
+    rw (slice_at (rows_of a.r a.b.now) a.j a.m (search rules) (omega (arith, length_rows_lem a.r a.b.now, c.requires.2)))
+    c.order_rows.ensures
