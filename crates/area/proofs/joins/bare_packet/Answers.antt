@@ -1,0 +1,13 @@
+-- `joins::bare_packet` meets its contract.
+use mathlib.Core.Path.{sym, ap, ◌∙◌}
+use native.Mathlib.Omega.{arith}
+use Rattle.rules.specs.Packets.{Packet, without}
+use Rattle.area.proofs.Lending.{back, lent_packet, first_row, rowed}
+use Rattle.area.proofs.joins.bare_packet.Goals as goal
+
+pub returns : goal.returns
+returns c =
+    let h = c.requires in
+    rowed (back _ _ c.put_row.new.w h.1 h.2 c.put_row.auto.w) (omega arith)
+    (c.bare_row-p.ensures ∙ ap (λ (p : Packet). without c.args.w p) (sym (first_row _) ∙ lent_packet _ _ _))
+    c.put_row.ensures

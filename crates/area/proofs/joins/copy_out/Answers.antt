@@ -1,0 +1,6 @@
+-- `joins::copy_out` meets its contract.
+use Rattle.area.proofs.Joining.{copied_out}
+use Rattle.area.proofs.joins.copy_out.Goals as goal
+
+pub returns : goal.returns
+returns c = copied_out c.requires c.copy_rows.ensures

@@ -1,0 +1,10 @@
+-- `slots::move_packet` meets its contract: one row of a slot taken up, and stored in another.
+use mathlib.Core.Path.{◌∙◌}
+use Rattle.area.proofs.Lending.{back, lent_packet, rowed}
+use Rattle.area.proofs.slots.move_packet.Goals as goal
+
+pub returns : goal.returns
+returns c =
+    let h = c.requires in
+    rowed (back _ _ c.put_row.new.w h.0 h.4 c.put_row.auto.w) h.1
+    (c.row-p.ensures ∙ lent_packet _ _ _) c.put_row.ensures
