@@ -321,7 +321,7 @@ high w i e a b c d = go (header_at w i).phase a (rw e at b) (rw e at c) (rw e at
     go (suc (suc (suc zero))) a b c d = absurd (d refl)
     go (suc (suc (suc (suc k)))) a b c d = omega arith
 
-pub code_read : {s w : List ℕ} {n i : ℕ} {h : Header} {o : Head} → Placed s w n i → h ≡ header_at w i → o ≡ reading.headAt s h.place
+pub code_read : {s w : List ℕ} {n i : ℕ} {h : Header} {o : Head} → Placed s w n i → h ≡ header_at w i → o ≡ reading.head_at s h.place
     → o.code ≡ code_at s w i
 code_read {s} {w} {n} {i} p e d =
     ap (λ (x : Head). x.code) ((rw e at d) ∙ head_is s (header_at w i).place (inside p.entering.stands))

@@ -106,7 +106,7 @@ module _ {s w : List ℕ} {n i : ℕ} (h : Entering s w n i 7) where
   beside_near = omega (arith, inside h.stands, h.short)
 
   -- its head, read where the position says that it stands
-  pub beside_head : {p : Header} {o : Head} → p ≡ header_at w i → o ≡ reading.headAt s p.place → BesideHead s pl o
+  pub beside_head : {p : Header} {o : Head} → p ≡ header_at w i → o ≡ reading.head_at s p.place → BesideHead s pl o
   beside_head e d =
       let k = (rw e at d) ∙ head_is s pl (inside h.stands) in
       record {

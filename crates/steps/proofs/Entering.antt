@@ -61,7 +61,7 @@ module _ {s w : List ℕ} {n i code : ℕ} (h : Entering s w n i code) where
   short_at e = rw e enter_short
 
   -- where the part below begins, by the header that was read
-  pub from_at : {H : Header} {p : Head} → H ≡ header_at w i → p ≡ reading.headAt s H.place → operands_of code ≡ 0 → p.from ≡ H.place + 1
+  pub from_at : {H : Header} {p : Head} → H ≡ header_at w i → p ≡ reading.head_at s H.place → operands_of code ≡ 0 → p.from ≡ H.place + 1
   from_at e q z = rw e (from_next h.stands (rw e at q) h.reads z)
 
   pub slim_at : {H : Header} → H ≡ header_at w i → H.count ≤ most_packets
@@ -261,6 +261,6 @@ module _ (s w : List ℕ) (n i : ℕ) (h : Entering s w n i 8) (b : Readable s) 
       rw (← (table_tree f)) at T
 
 -- the table that a use names, by the header that was read
-pub table_at : (s w : List ℕ) (i : ℕ) {H : Header} {p : Head} → H ≡ header_at w i → p ≡ reading.headAt s H.place
+pub table_at : (s w : List ℕ) (i : ℕ) {H : Header} {p : Head} → H ≡ header_at w i → p ≡ reading.head_at s H.place
     → p.table ≡ (head s (header_at w i).place).table
 table_at s w i e q = rw e at (head_reads s _ q).table
