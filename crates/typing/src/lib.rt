@@ -332,7 +332,7 @@ fn has_parts(code: u8) -> bool
 // ---- a part and all below it
 
 // One side of a sum or a sequence: a part with no parts below it is read here, any other is walked.
-#[cycle(beside_part_side_walk)]
+#[cycle(walking)]
 fn side(
     s: &[u8],
     marks: &mut [u16; 2],
@@ -360,7 +360,7 @@ fn side(
 }
 
 // A concurrent part: its sides each begin with no masks, below one concurrent part more.
-#[cycle(beside_part_side_walk)]
+#[cycle(walking)]
 fn beside_part(
     s: &[u8],
     marks: &mut [u16; 2],
@@ -395,7 +395,7 @@ fn beside_part(
 }
 
 // The part at the state's place and all below it, at most depth deep. The last part below a code is walked in the loop.
-#[cycle(beside_part_side_walk)]
+#[cycle(walking)]
 fn walk(
     s: &[u8],
     marks: &mut [u16; 2],
