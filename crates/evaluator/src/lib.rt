@@ -195,7 +195,7 @@ fn none_at(book: &[u8], from: usize, depth: usize) -> Worked
 }
 
 // Code 4, the part below it at a place.
-#[cycle(beside_at_evaluate_part_not_at_one_packet_seq_at_sum_at_table_at_walk_packets)]
+#[cycle(evaluating)]
 fn not_at(
     book: &[u8],
     main: bool,
@@ -220,7 +220,7 @@ fn not_at(
 }
 
 // Code 5, the parts below it from a place on.
-#[cycle(beside_at_evaluate_part_not_at_one_packet_seq_at_sum_at_table_at_walk_packets)]
+#[cycle(evaluating)]
 fn sum_at(
     book: &[u8],
     main: bool,
@@ -253,7 +253,7 @@ fn sum_at(
 }
 
 // Code 6, the parts below it from a place on.
-#[cycle(beside_at_evaluate_part_not_at_one_packet_seq_at_sum_at_table_at_walk_packets)]
+#[cycle(evaluating)]
 fn seq_at(
     book: &[u8],
     main: bool,
@@ -281,7 +281,7 @@ fn seq_at(
 }
 
 // Code 7 by its head, on one packet, a row by itself: each side without the fields that the other writes. Put into zeros.
-#[cycle(beside_at_evaluate_part_not_at_one_packet_seq_at_sum_at_table_at_walk_packets)]
+#[cycle(evaluating)]
 fn one_packet(
     book: &[u8],
     main: bool,
@@ -327,7 +327,7 @@ fn one_packet(
 }
 
 // Code 7 by its head, on the n packets of v from number i on: one alone, or the lowest and the rest joined. Put into zeros.
-#[cycle(beside_at_evaluate_part_not_at_one_packet_seq_at_sum_at_table_at_walk_packets)]
+#[cycle(evaluating)]
 fn walk_packets(
     book: &[u8],
     main: bool,
@@ -368,7 +368,7 @@ fn walk_packets(
 }
 
 // Code 7 by its head: one packet by itself, more packet by packet from a copy of the array, into the array.
-#[cycle(beside_at_evaluate_part_not_at_one_packet_seq_at_sum_at_table_at_walk_packets)]
+#[cycle(evaluating)]
 fn beside_at(
     book: &[u8],
     main: bool,
@@ -394,7 +394,7 @@ fn beside_at(
 }
 
 // Code 8, a use of table x: the table's body in the main body, nothing in a table's.
-#[cycle(beside_at_evaluate_part_not_at_one_packet_seq_at_sum_at_table_at_walk_packets)]
+#[cycle(evaluating)]
 fn table_at(
     book: &[u8],
     main: bool,
@@ -421,7 +421,7 @@ fn table_at(
 
 // The part at a place, in the main body or in a table's, on the n packets of v, which have the fields. Past the end, and below the depth,
 // stands id.
-#[cycle(beside_at_evaluate_part_not_at_one_packet_seq_at_sum_at_table_at_walk_packets)]
+#[cycle(evaluating)]
 fn evaluate_part(
     book: &[u8],
     main: bool,
