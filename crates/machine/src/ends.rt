@@ -25,7 +25,7 @@ pub fn answer(
     work: &[u16],
     c: End,
 ) -> Ran
-    requires playable { Playable book.now (start book.now packet.now) × (16 * fields_of book.now ≤ length res.old) }
+    requires policy { Playable book.now (start book.now packet.now) × (16 * fields_of book.now ≤ length res.old) }
     requires ended { Ended book.now work.now c.free c.ready c.steps (start book.now packet.now) schedule.now }
     ensures { (result ≡ stop_of book.now packet.now schedule.now)
         × (res.new ≡ result_run result

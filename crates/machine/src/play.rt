@@ -26,9 +26,9 @@ fn free_all(work: &mut [u16])
 
 // The area made ready, and the main policy placed on the packet.
 fn set_up(book: &[u8], ends: &[u16], packet: &[u16], work: &mut [u16]) -> Tally
-    requires readable { Readable book.now × Runnable book.now (body_start book.now 0)
+    requires policy { Readable book.now × Runnable book.now (body_start book.now 0)
         × Playable book.now (start book.now packet.now) }
-    requires area_words_in_bounds { (area_words ≤ length work.old) × (length packet.now ≤ 8) × Marked book.now ends.now }
+    requires buffers { (area_words ≤ length work.old) × (length packet.now ≤ 8) × Marked book.now ends.now }
     ensures { Started book.now work.old work.new result.free result.ready
         (start book.now packet.now) }
 {
@@ -86,9 +86,9 @@ pub fn conduct(
     res: &mut [u16],
     work: &mut [u16],
 ) -> Ran
-    requires readable { Readable book.now × Runnable book.now (body_start book.now 0)
+    requires policy { Readable book.now × Runnable book.now (body_start book.now 0)
         × Playable book.now (start book.now packet.now) }
-    requires area_words_in_bounds { (area_words ≤ length work.old) × (length packet.now ≤ 8) × (16 * fields_of book.now ≤ length res.old) }
+    requires buffers { (area_words ≤ length work.old) × (length packet.now ≤ 8) × (16 * fields_of book.now ≤ length res.old) }
     ensures { (result ≡ stop_of book.now packet.now schedule.now)
         × (res.new ≡ result_run result
         (words_of book.now packet.now schedule.now) res.old)
