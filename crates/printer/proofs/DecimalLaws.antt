@@ -6,7 +6,6 @@ use mathlib.Core.Bool.{Bool, true, false, cond}
 use mathlib.Core.List.{List, [], ◌∷◌, ◌++◌}
 use lib.Dec.{ltb}
 use lib.ListN.{length, length-append}
-use borrow.Author.Rules.{zero≤}
 use borrow.Author.Tests.{lt-ltb, le-ltb}
 use Rattle.printer.specs.Printing.{decimal_in}
 
@@ -34,5 +33,5 @@ few_digits d n false l h = rw length-append (omega arith)
 
 pub digits_few : (d n : ℕ) → length (decimal_in d n) ≤ d
 unfolding decimal_in
-digits_few zero n = zero≤
+digits_few zero n = omega arith
 digits_few (suc d) n = few_digits d n (ltb n 10) (decimal_in d (n / 10)) (digits_few d (n / 10))

@@ -7,7 +7,6 @@ use mathlib.Core.List.{List, [], ◌∷◌, ◌++◌}
 use native.Mathlib.Nat.{mul-le-mul, add-sub_cancel_left}
 use lib.ListN.{length, get_or, take, drop, length-append, length-take, drop_of_length-le}
 use lib.Seq.{drop-cons, drop-drop}
-use borrow.Author.Rules.{zero≤}
 use Rattle.printer.specs.Printing.{decimal, blank_then, line_end, further_values, values_line}
 use Rattle.printer.specs.Building.{lines_of}
 use Rattle.printer.proofs.DecimalLaws.{digits_few}
@@ -68,7 +67,7 @@ values_few (x ∷ v) = rw length-append (omega (arith, digits_few 20 x, further_
 
 lines_few : (k n : ℕ) (l : List ℕ) → length (lines_of k n l) ≤ n * (21 * k + 1)
 unfolding lines_of
-lines_few k zero l = zero≤
+lines_few k zero l = omega arith
 lines_few k (suc n) l =
     rw length-append (omega (arith, values_few (take k l), length-take k l, lines_few k n (drop k l)))
 

@@ -5,9 +5,8 @@ use mathlib.Core.Path.{◌≡◌, refl, sym, ap, subst, ◌∙◌}
 use mathlib.Core.List.{List, [], ◌∷◌, ◌++◌, append_assoc, append-nil}
 use lib.ListN.{length, set, replicate, length-append, length-take}
 use lib.Seq.{take-append_seam, set_at}
-use Rattle.io.specs.Counts.{IsPrefixLen}
 use Rattle.printer.specs.declared.text.Text.{Text}
-use Rattle.printer.specs.Building.{most_text, text, text_of, Holds, Room, Gains}
+use Rattle.printer.specs.Building.{IsPrefixLen, most_text, text, text_of, Holds, Room, Gains}
 
 pub holds_len : {t : Text} {l : List ℕ} → Holds t l → t.len ≡ length l
 holds_len h = ap (λ (u : Text). u.len) h.is

@@ -13,6 +13,10 @@ use Rattle.rules.specs.Answers.{area_words, start, ran, final_of}
 use Rattle.printer.specs.declared.text.Text.{Text}
 use Rattle.printer.specs.Printing.{book_in, line_end, blank_then, running_word, finished_word, values_line, ran_lines}
 
+-- the first n of xs are there: a slice of them is in bounds and has n bytes
+abbrev pub IsPrefixLen : ℕ → List ℕ → Type 0
+IsPrefixLen n xs = (n ≤ length xs) × (n ≡ length (take n xs))
+
 -- the bytes that a text can hold
 abbrev pub most_text : ℕ
 most_text = 4096

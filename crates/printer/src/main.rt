@@ -4,16 +4,16 @@
 mod lines;
 mod text;
 
-ghost use Rattle.std.specs.Prelude.{◌*◌, ◌≤◌, ◌≡◌, length, take};
-ghost use Rattle.io.specs.Counts.{IsPrefixLen};
+ghost use Rattle.std.specs.Prelude.{◌*◌, ◌≤◌, ◌≡◌, IfOk, length, take};
 ghost use Rattle.rules.specs.declared.Verdict.TheVariants.{Accepted};
 ghost use Rattle.rules.specs.Reading.{fields_of, verdict};
 ghost use Rattle.printer.specs.Printing.{words_in, printed};
-ghost use Rattle.printer.specs.Building.{Holds, Accepts, ran_text, text, text_of};
+ghost use Rattle.printer.specs.Building.{IsPrefixLen, Holds, Accepts, ran_text, text, text_of};
 
-use libc::{STDERR_FILENO, STDIN_FILENO, STDOUT_FILENO};
 use lines::{finished, refused, running};
 use rules::{Ran, Reason, Sizes, Verdict};
+use std::io;
+use std::io::{Read, Write};
 use text::Text;
 
 // The packet's words, in the first k places.
@@ -66,8 +66,8 @@ fn print_accepted(input: &[u8], n: usize, z: Sizes) -> Text
 
 // Exactly what document 01 says is printed for an input.
 pub fn print_run(input: &[u8]) -> Text
-    ensures result_value { (text result ≡ printed input.now) × (result ≡ text_of (printed input.now)) }
-    ensures prefix_len { IsPrefixLen result.len result.bytes }
+    ensures printed { (text result ≡ printed input.now) × (result ≡ text_of (printed input.now)) }
+    ensures in_bounds { IsPrefixLen result.len result.bytes }
 {
     if input.len() < 2 {
         return refused(rules::no_place(Reason::Input));
@@ -86,17 +86,27 @@ pub fn print_run(input: &[u8]) -> Text
     }
 }
 
-// Reads as much as decides what is printed: 2 + 4,096 + 16 + 8,193 bytes. A failed write is said, since a program has no status to tell it.
-fn main() {
+// Reads until the buffer is full or the input ends; gives how many bytes there are.
+fn read_full(from: &mut impl Read, buf: &mut [u8]) -> io::Result<usize>
+    ensures { IfOk result (λ n. IsPrefixLen n buf.new) }
+{
+    let mut done = 0;
+    while done < buf.len() {
+        let n = from.read(&mut buf[done..])?;
+        if n == 0 {
+            break;
+        }
+        done += n;
+    }
+    Ok(done)
+}
+
+// Reads as much as decides what is printed: 2 + 4,096 + 16 + 8,193 bytes.
+fn main(rt: HostRuntime) -> io::Result<()> {
     let mut input = [0u8; 12307];
-    let n = io::read_full(STDIN_FILENO, &mut input);
+    let n = read_full(&mut rt.reader(), &mut input)?;
     let t = print_run(&input[..n]);
     let bytes = t.bytes;
     let len = t.len;
-    if !io::write_all(STDOUT_FILENO, &bytes[..len]) {
-        io::write_all(
-            STDERR_FILENO,
-            b"printer: the answer could not be written to standard output\n",
-        );
-    }
+    io::writer(&rt).write_all(&bytes[..len])
 }
