@@ -7,66 +7,78 @@ mod judging;
 mod tallies;
 mod vectors;
 
-use libc::{STDERR_FILENO, STDIN_FILENO, STDOUT_FILENO};
+ghost use Rattle.std.specs.Prelude.{◌≤◌, IfOk, length};
+
+use std::io;
+use std::io::{Print, Read};
 use tallies::{Question, tally_of};
 use vectors::{from, front, long_at};
 
-// What prints answers false at the first write that fails, and nothing is printed after it.
-fn print(text: &[u8]) -> bool {
-    io::write_all(STDOUT_FILENO, text)
-}
-
-fn print_number(n: u64) -> bool {
-    io::print_decimal(STDOUT_FILENO, n)
-}
-
 // CASES NAME, DIFFERING differ; and where some do, the first of them, counted from 0.
-fn print_differing(set: &[u8], name: &[u8]) -> bool {
+fn print_differing(to: &impl Print, set: &[u8], name: &str) -> io::Result<()> {
     let t = tally_of(set, Question::Differs);
-    let counts = print_number(t.cases as u64)
-        && print(name)
-        && print_number(t.found as u64)
-        && print(b" differ");
-    let found = t.found == 0 || print(b", the first is case ") && print_number(t.first as u64);
-    counts && found && print(b"\n")
+    to.print(t.cases)?;
+    to.print(name)?;
+    to.print(t.found)?;
+    to.print(" differ")?;
+    if t.found != 0 {
+        to.print(", the first is case ")?;
+        to.print(t.first)?;
+    }
+    to.println("")
 }
 
-fn print_met(set: &[u8], call: u8, number: u8) -> bool {
+fn print_met(to: &impl Print, set: &[u8], call: u8, number: u8) -> io::Result<()> {
     let t = tally_of(set, Question::Refused(call, number));
-    print(b" ") && print_number(number as u64) && print(b":") && print_number(t.found as u64)
+    to.print(" ")?;
+    to.print(number)?;
+    to.print(":")?;
+    to.print(t.found)
 }
 
 // How often a call answers, as 0, and how often it is turned away by each number.
-fn print_numbers(set: &[u8], name: &[u8], call: u8) -> bool {
-    let mut written = print(name);
-    let mut number: u8 = 0;
-    while number < 15 {
-        written = written && print_met(set, call, number);
-        number += 1;
+fn print_numbers(to: &impl Print, set: &[u8], name: &str, call: u8) -> io::Result<()> {
+    to.print(name)?;
+    for number in 0..15 {
+        print_met(to, set, call, number)?;
     }
-    written && print(b"\n")
+    to.println("")
 }
 
 // A file of vectors: the length of the right ones in four bytes, these, and then those that state something wrong on purpose.
-fn report(file: &[u8]) -> bool {
+fn report(to: &impl Print, file: &[u8]) -> io::Result<()> {
     let right = long_at(file, 0) as usize;
     let sets = from(file, 4);
     let trials = front(sets, right);
-    print_differing(trials, b" cases, ")
-        && print_numbers(trials, b"accept", 0)
-        && print_numbers(trials, b"evaluate", 1)
-        && print_numbers(trials, b"run", 2)
-        && print_differing(from(sets, right), b" cases that state something wrong, ")
+    print_differing(to, trials, " cases, ")?;
+    print_numbers(to, trials, "accept", 0)?;
+    print_numbers(to, trials, "evaluate", 1)?;
+    print_numbers(to, trials, "run", 2)?;
+    print_differing(to, from(sets, right), " cases that state something wrong, ")
 }
 
-// A failed write is said on standard error, since a program has no status to tell it.
-fn main() {
-    let mut input = [0u8; 524288];
-    let n = io::read_full(STDIN_FILENO, &mut input);
-    if !report(&input[..n]) {
-        io::write_all(
-            STDERR_FILENO,
-            b"trials: the answer could not be written to standard output\n",
-        );
+// Reads until the buffer is full or the input ends; gives how many bytes there are.
+fn read_full(from: &mut impl Read, buf: &mut [u8]) -> io::Result<usize>
+    ensures { IfOk result (λ n. n ≤ length buf.new) }
+{
+    let mut done = 0;
+    while done < buf.len() {
+        let n = from.read(&mut buf[done..])?;
+        if n == 0 {
+            break;
+        }
+        done += n;
     }
+    Ok(done)
+}
+
+// Room for the file. From a call, so that a proof has its length and not each of its zeros.
+fn room() -> [u8; 524288] {
+    [0; 524288]
+}
+
+fn main(rt: HostRuntime) -> io::Result<()> {
+    let mut input = room();
+    let n = read_full(&mut rt.reader(), &mut input)?;
+    report(&rt, &input[..n])
 }

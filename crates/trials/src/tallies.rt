@@ -5,7 +5,7 @@ ghost use Rattle.trials.specs.Tallies.{refused_by, asked, counted, tallied, fron
 use crate::judging::agrees;
 use crate::vectors::{from, front, long_at, word_at};
 
-#[derive(Drop)]
+#[derive(Clone, Copy)]
 pub struct Tally {
     pub cases: usize,
     pub found: usize,
@@ -14,7 +14,7 @@ pub struct Tally {
 
 // Whether the answers to a vector are not as it states; or whether it states that a call (0 accept, 1 evaluate, 2 run) is turned
 // away by a number, 0 for an answer.
-#[derive(Drop)]
+#[derive(Clone, Copy)]
 pub enum Question {
     Differs,
     Refused(u8, u8),

@@ -12,14 +12,13 @@ pub loop-x-smaller : goal.loop-x-smaller
 loop-x-smaller c = omega arith
 
 pub loop-x-preserved : goal.loop-x-preserved
-loop-x-preserved c =
-    (
-      c.loop-x.invariant.0,
-      search rules,
-      omega arith,
-      c.loop-x.invariant.3
-          ∙ masks_step _ _ _ _ _ c.loop-x.invariant.0 (omega arith) c.entry_masks.ensures c.if-entry_masks.true,
-    )
+loop-x-preserved c = (
+  c.loop-x.invariant.0,
+  search rules,
+  omega arith,
+  c.loop-x.invariant.3
+      ∙ masks_step _ _ _ _ _ c.loop-x.invariant.0 (omega arith) c.entry_masks.ensures c.if-entry_masks.true,
+)
 
 pub returns-else-entry_masks : goal.returns-else-entry_masks
 returns-else-entry_masks c =

@@ -9,11 +9,11 @@ use Rattle.sets.proofs.ascends.Goals as goal
 
 pub loop-i-init : goal.loop-i-init
 loop-i-init c = (
-      search rules,
-      search rules,
-      ascends_last (rows_of c.args.r c.args.v.now) c.args.n c.requires.0
-          (omega (arith, length_rows_lem c.args.r c.args.v.now, c.requires.1)),
-    )
+  search rules,
+  search rules,
+  ascends_last (rows_of c.args.r c.args.v.now) c.args.n c.requires.0
+      (omega (arith, length_rows_lem c.args.r c.args.v.now, c.requires.1)),
+)
 
 pub loop-i-preserved : goal.loop-i-preserved
 loop-i-preserved c =

@@ -6,6 +6,6 @@ use Rattle.sets.proofs.copy_of.Goals as goal
 
 pub returns : goal.returns
 returns c = record {
-      held = copied_held none_held c.requires c.copy_rows.ensures;
-      fields = refl;
-    }
+  held = copied_held none_held c.requires c.copy_rows.ensures;
+  fields = refl;
+}

@@ -23,13 +23,12 @@ beside_part-returns-in_default t c =
     c.read_operands-ops.ensures.1 _ _ c.in_default.is c.refused.ensures
 
 pub beside_part-walk-requires : goal.beside_part-walk-requires
-beside_part-walk-requires t c =
-    (
-      omega arith,
-      first_asked _ _ _ _ _ _ c.requires _ c.read_operands-ops.ensures.0
-          c.read_operands-ops.ensures.1 _ c.in-Next.is _ _ _ _ c.level_of.ensures.0
-          c.bare.ensures c.past.ensures c.mark_level.ensures,
-    )
+beside_part-walk-requires t c = (
+  omega arith,
+  first_asked _ _ _ _ _ _ c.requires _ c.read_operands-ops.ensures.0
+      c.read_operands-ops.ensures.1 _ c.in-Next.is _ _ _ _ c.level_of.ensures.0
+      c.bare.ensures c.past.ensures c.mark_level.ensures,
+)
 
 pub beside_part-wire-requires : goal.beside_part-wire-requires
 beside_part-wire-requires t c =
@@ -44,14 +43,13 @@ beside_part-returns-in_default-left t c =
     c.in_default-left.is c.wire.ensures
 
 pub beside_part-walk-requires-2 : goal.beside_part-walk-requires-2
-beside_part-walk-requires-2 t c =
-    (
-      omega arith,
-      second_asked _ _ _ _ _ _ c.requires _ c.read_operands-ops.ensures.0
-          c.read_operands-ops.ensures.1 _ c.in-Next.is _ _ _ _ c.level_of.ensures.0
-          c.bare.ensures c.past.ensures c.mark_level.ensures _ _ _
-          (told_of _ _ _ _ _ _ _ c.unwire-left.ensures c.walk.ensures) _ c.in-On.is _ c.bare-2.ensures,
-    )
+beside_part-walk-requires-2 t c = (
+  omega arith,
+  second_asked _ _ _ _ _ _ c.requires _ c.read_operands-ops.ensures.0
+      c.read_operands-ops.ensures.1 _ c.in-Next.is _ _ _ _ c.level_of.ensures.0
+      c.bare.ensures c.past.ensures c.mark_level.ensures _ _ _
+      (told_of _ _ _ _ _ _ _ c.unwire-left.ensures c.walk.ensures) _ c.in-On.is _ c.bare-2.ensures,
+)
 
 pub beside_part-wire-requires-in_default-right : goal.beside_part-wire-requires-in_default-right
 beside_part-wire-requires-in_default-right t c =
@@ -138,6 +136,7 @@ walk-returns-in_default t c =
     round_leaf _ _ _ _ _ _ _ _ _ c.loop-from.invariant c.if-s-at.false c.if-d-eq0.false _ _
     (other_codes (get_or c.args.s.now (c.loop-from.st % 65536) 0) (λ e. omega arith) (λ e. omega arith)
     (elim c.in_default.branch [
-      walk-in_default-via-then-code-lt4 w ↦ inl (omega arith)
-    | walk-in_default-via-else-code-lt4+else-code-lt7 w ↦ inr (omega arith) ]))
+      | walk-in_default-via-then-code-lt4 w ↦ inl (omega arith)
+      | walk-in_default-via-else-code-lt4+else-code-lt7 w ↦ inr (omega arith)
+    ]))
     c.leaf.ensures

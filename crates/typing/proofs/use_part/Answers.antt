@@ -7,12 +7,11 @@ refused-requires c =
     wrong_within c.args.s.now _ _ c.requires.sound.size c.in_default.is c.read_operands-ops.ensures.1
 
 pub returns-in_default : goal.returns-in_default
-returns-in_default c =
-    (
-      leafed_wrong _ _ _ _ _ _ _ c.read_operands-ops.ensures.0 c.in_default.is c.read_operands-ops.ensures.1
-          c.refused.ensures,
-      wrong_noted c.args.s.now _ _ _ _ _ _ _ c.read_operands-ops.ensures.0 c.in_default.is,
-    )
+returns-in_default c = (
+  leafed_wrong _ _ _ _ _ _ _ c.read_operands-ops.ensures.0 c.in_default.is c.read_operands-ops.ensures.1
+      c.refused.ensures,
+  wrong_noted c.args.s.now _ _ _ _ _ _ _ c.read_operands-ops.ensures.0 c.in_default.is,
+)
 
 pub note_use-requires : goal.note_use-requires
 note_use-requires c =

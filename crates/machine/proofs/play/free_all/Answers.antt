@@ -9,9 +9,8 @@ loop-n-init c =
     (omega arith, freeing_starts (a.work).now)
 
 pub loop-n-preserved : goal.loop-n-preserved
-loop-n-preserved c =
-    (
-      omega (arith, c.loop-n-test.true),
-      freeing_turns _ _ _ _ c.loop-n-test.true c.loop-n.invariant.1
-          c.give_back.ensures,
-    )
+loop-n-preserved c = (
+  omega (arith, c.loop-n-test.true),
+  freeing_turns _ _ _ _ c.loop-n-test.true c.loop-n.invariant.1
+      c.give_back.ensures,
+)

@@ -3,13 +3,12 @@ use Rattle.machine.proofs.Starting.{start_lays, start_relists, started}
 use Rattle.machine.proofs.play.set_up.Goals as goal
 
 pub lay-o-requires : goal.lay-o-requires
-lay-o-requires c =
-    (
-      rw c.body_start-at.ensures.0
-          (start_lays _ _ _ _ _ c.requires.policy.0 c.requires.policy.1 c.requires.policy.2 c.requires.buffers.0 c.free_all.ensures
-          (rw c.padded-p.ensures at c.put_packet.ensures)),
-      c.requires.buffers.2,
-    )
+lay-o-requires c = (
+  rw c.body_start-at.ensures.0
+      (start_lays _ _ _ _ _ c.requires.policy.0 c.requires.policy.1 c.requires.policy.2 c.requires.buffers.0 c.free_all.ensures
+      (rw c.padded-p.ensures at c.put_packet.ensures)),
+  c.requires.buffers.2,
+)
 
 pub relist-ready-requires : goal.relist-ready-requires
 relist-ready-requires c =
