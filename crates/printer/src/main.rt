@@ -16,6 +16,10 @@ use std::io;
 use std::io::{Read, Write};
 use text::Text;
 
+// The longest book and schedule that are read.
+const MOST_BYTES: usize = 4096;
+const MOST_CHOICES: usize = 8192;
+
 // The packet's words, in the first k places.
 fn packet_of(s: &[u8], k: usize) -> [u16; 8]
     requires { (k ≤ 8) × (2 * k ≤ length s.now) }
@@ -57,7 +61,7 @@ fn print_accepted(input: &[u8], n: usize, z: Sizes) -> Text
         return refused(rules::no_place(Reason::PacketLength));
     }
     let schedule = &rest[bytes..];
-    if 8192 < schedule.len() {
+    if MOST_CHOICES < schedule.len() {
         return refused(rules::no_place(Reason::Input));
     }
     let packet = packet_of(rest, k);
@@ -73,7 +77,7 @@ pub fn print_run(input: &[u8]) -> Text
         return refused(rules::no_place(Reason::Input));
     }
     let n = book::number_at(input, 0) as usize;
-    if 4096 < n {
+    if MOST_BYTES < n {
         return refused(rules::no_place(Reason::BookLength));
     }
     let from = 2 + n;

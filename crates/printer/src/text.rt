@@ -4,7 +4,7 @@ ghost use Rattle.printer.specs.Building.{Holds, Room, Gains};
 ghost use Rattle.printer.specs.Printing.{decimal_in, blank_then};
 
 // The text is the first bytes; those after it are 0.
-#[derive(Drop)]
+#[derive(Clone, Copy)]
 pub struct Text {
     pub bytes: [u8; 4096],
     pub len: usize,

@@ -11,6 +11,7 @@ pub mod MaskLaws
 pub mod MaskExt
 pub mod PacketLaws
 pub mod Orders
+pub mod Putting
 pub mod Sets
 pub mod Lacked
 pub mod Below

@@ -10,6 +10,7 @@ use Rattle.rules.specs.declared.Order.{Order}
 use Rattle.rules.specs.declared.Order.TheVariants.{Less, Same, More}
 use Rattle.rules.specs.Packets.{Packet, Packets, mix, order_of, Before, AllAfter, Ascending, ◌∈◌, put_by, insert, union}
 use Rattle.rules.specs.Packets.{cons_if, keep, is_same, member, lacks, gathered, pairs_into, pairs}
+use Rattle.rules.proofs.Putting.{put_out, put_in}
 use Rattle.rules.proofs.Orders.{order_refl, order_same, order_turned, before_irrefl, before_not_after, after_trans}
 
 pub cast∈ : (b c : Packet) (s : Packets) → b ≡ c → c ∈ s → b ∈ s
@@ -20,21 +21,6 @@ single b x (inl e) = e
 single b x (inr m) = absurd m
 
 -- ---- members of each operation
-
-put_out : (o : Order) (b x y : Packet) (s r : Packets) → (b ∈ r → (b ≡ x) ⊎ (b ∈ s)) → b ∈ put_by o x y s r → (b ≡ x) ⊎ (b ∈ (y ∷ s))
-put_out Less b x y s r h m = m
-put_out Same b x y s r h m = inr m
-put_out More b x y s r h (inl e) = inr (inl e)
-put_out More b x y s r h (inr m) = ⊎_elim (λ (e : b ≡ x). inl e) (λ (k : b ∈ s). inr (inr k)) (h m)
-
-put_in : (o : Order) (b x y : Packet) (s r : Packets) → order_of x y ≡ o → ((b ≡ x) ⊎ (b ∈ s) → b ∈ r)
-    → (b ≡ x) ⊎ (b ∈ (y ∷ s)) → b ∈ put_by o x y s r
-put_in Less b x y s r t h m = m
-put_in Same b x y s r t h (inl e) = inl (e ∙ order_same x y t)
-put_in Same b x y s r t h (inr m) = m
-put_in More b x y s r t h (inl e) = inr (h (inl e))
-put_in More b x y s r t h (inr (inl e)) = inl e
-put_in More b x y s r t h (inr (inr m)) = inr (h (inr m))
 
 pub insert_out : (b x : Packet) (s : Packets) → b ∈ insert x s → (b ≡ x) ⊎ (b ∈ s)
 unfolding insert
