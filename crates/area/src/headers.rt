@@ -6,7 +6,7 @@ ghost use Rattle.area.specs.Ready.{done_at};
 use crate::{FINISHED, HEAD_WORDS};
 
 // A header's words: the place of the part's code byte, the phase, how many packets the slot has, the position above and those below.
-#[derive(Drop)]
+#[derive(Clone, Copy)]
 pub struct Header {
     pub place: usize,
     pub phase: u16,

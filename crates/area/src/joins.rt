@@ -117,7 +117,7 @@ fn order_packets(work: &[u16], l: usize, x: usize, r: usize, y: usize) -> Order
 }
 
 // The next packet of a union: its slot and its row there, and where the two sets go on after it.
-#[derive(Drop)]
+#[derive(Clone, Copy)]
 struct Next {
     slot: usize,
     row: usize,

@@ -22,7 +22,7 @@ use rules::{Evaluated, Head, Outcome, Reason, Sizes, Verdict};
 use sets::{PLACES, Values};
 
 // What a part gives on the packets of a lent array: too wide, or how many they are then, its steps and its room, and the place after it.
-#[derive(Drop)]
+#[derive(Clone, Copy)]
 struct Worked {
     wide: bool,
     count: usize,
@@ -33,14 +33,14 @@ struct Worked {
 
 // How far a packet comes in an accepted book: to a table that is not populated (9), to a part that is too wide (10), or through, with the
 // number of packets, N and the room.
-#[derive(Drop)]
+#[derive(Clone, Copy)]
 pub struct Weight {
     pub count: usize,
     pub steps: u64,
     pub room: u64,
 }
 
-#[derive(Drop)]
+#[derive(Clone, Copy)]
 pub enum Passage {
     Open,
     Wide,
@@ -48,7 +48,7 @@ pub enum Passage {
 }
 
 // Whether a part names an unpopulated table, or the place after it.
-#[derive(Drop)]
+#[derive(Clone, Copy)]
 struct Looked {
     found: bool,
     next: usize,

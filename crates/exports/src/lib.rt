@@ -9,7 +9,7 @@ ghost use Rattle.exports.specs.Faces.{Shows, AcceptFace, EvaluateFace, RunFace};
 use rules::{Evaluated, Ran, Refusal, Verdict};
 
 // A code, and as many of the values as count.
-#[derive(Drop)]
+#[derive(Clone, Copy)]
 struct Face {
     code: u64,
     values: [u64; 5],

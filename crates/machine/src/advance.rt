@@ -7,7 +7,7 @@ ghost use Rattle.machine.specs.Runs.{Advancing, Advanced};
 use crate::step::step;
 
 // How many numbers are free, and how many ready.
-#[derive(Drop)]
+#[derive(Clone, Copy)]
 pub struct Tally {
     pub free: usize,
     pub ready: usize,

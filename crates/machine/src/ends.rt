@@ -9,7 +9,7 @@ use area::POSITIONS;
 use rules::{Finish, Progress, Ran};
 
 // Steps made, and the free and the ready numbers then.
-#[derive(Drop)]
+#[derive(Clone, Copy)]
 pub struct End {
     pub steps: usize,
     pub free: usize,

@@ -17,7 +17,7 @@ pub const MOST: usize = 16;
 const WIDEST: usize = 16;
 
 // A row taken up: its first eight values and its last eight.
-#[derive(Drop)]
+#[derive(Clone, Copy)]
 struct Blocks {
     lo: [u16; 8],
     hi: [u16; 8],

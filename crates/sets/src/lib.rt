@@ -24,7 +24,7 @@ const WORDS: usize = MOST * PLACES;
 pub type Values = [u16; WORDS];
 
 // A set by value: packet i has the values 8 i to 8 i + 7, and all after the last packet are 0. Bit f of the mask: the packets have field f.
-#[derive(Drop)]
+#[derive(Clone, Copy)]
 pub struct PacketSet {
     pub values: Values,
     pub count: usize,
@@ -80,7 +80,7 @@ pub fn alone(p: &[u16], w: u8, mask: u8) -> PacketSet
 }
 
 // Where a packet goes among others: before packet i, or it is there.
-#[derive(Drop)]
+#[derive(Clone, Copy)]
 enum Place {
     At(usize),
     There,

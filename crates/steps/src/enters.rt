@@ -12,7 +12,7 @@ use area::{
 };
 
 // Free numbers, and the ready positions that a step leaves: nobody where it is finished, one, or two.
-#[derive(Drop)]
+#[derive(Clone, Copy)]
 pub struct Turn {
     pub free: usize,
     pub ready: usize,
@@ -31,7 +31,7 @@ pub fn ended(free: usize) -> Turn
 }
 
 // The ready positions of two below number i: i itself where both are finished.
-#[derive(Drop)]
+#[derive(Clone, Copy)]
 pub struct Pair {
     pub ready: usize,
     pub more: usize,

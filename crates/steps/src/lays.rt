@@ -19,7 +19,7 @@ pub fn lay_leaf(work: &mut [u16], i: usize, up: u16, at: u16, phase: u16, src: u
 }
 
 // Free numbers, and the ready position that a placed part offers; nobody where it is finished.
-#[derive(Drop)]
+#[derive(Clone, Copy)]
 pub struct Offer {
     pub free: usize,
     pub ready: usize,

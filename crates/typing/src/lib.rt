@@ -42,7 +42,7 @@ const WRITES: u64 = 281474976710656;
 // ---- an answer in one number, as it goes up through the walk: a state, or a refusal
 
 // On with the state, or off at the place of the first byte that cannot stand there.
-#[derive(Drop)]
+#[derive(Clone, Copy)]
 pub enum Walked {
     On(u64),
     Off(usize),
@@ -470,7 +470,7 @@ fn whole(s: &[u8], marks: &mut [u16; 2], uses: &mut [u16; 32], start: usize, way
 
 // What stands after some bodies: the place of the next, n and D so far, and the first body that does not fit, one more than its
 // place, 0 if none.
-#[derive(Drop)]
+#[derive(Clone, Copy)]
 pub struct Sums {
     pub at: usize,
     pub parts: usize,
@@ -479,7 +479,7 @@ pub struct Sums {
 }
 
 // The sums of all bodies, or the place of the first byte that cannot stand there.
-#[derive(Drop)]
+#[derive(Clone, Copy)]
 pub enum Summed {
     All(Sums),
     Stop(usize),
