@@ -1,6 +1,6 @@
 /* Policy books for C programs: accept, evaluate and run. docs/FORMAT.md tells how a book is written and what the words mean.
  *
- * Link target/staticlib/libexports.a, which `rt staticlib exports` writes, code for Linux on x86-64; it needs only memcpy and memset
+ * Link target/staticlib/libexports.a, which `tools/build exports` writes, code for Linux on x86-64; it needs only memcpy and memset
  * of the C library. Every answer below is proved of the compiled functions' source: crates/exports/src has the contracts.
  *
  * Each function returns a code and puts values in the first words that are lent for them; the words after these are kept.

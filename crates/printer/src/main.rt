@@ -18,6 +18,7 @@ use text::Text;
 
 // The longest book and schedule that are read.
 const MOST_BYTES: usize = 4096;
+
 const MOST_CHOICES: usize = 8192;
 
 // The packet's words, in the first k places.
