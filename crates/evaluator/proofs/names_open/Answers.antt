@@ -7,7 +7,7 @@ use Rattle.evaluator.proofs.names_open.Goals as goal
 pub returns-then-all_populated : goal.returns-then-all_populated
 returns-then-all_populated c =
     sym
-    (all_closed c.args.book.now c.requires (λ i. (c.shared_slice_known-1.given i).fits)
+    (all_closed c.args.book.now c.requires (λ i. (c.type_inv.book i).fits)
     (c.all_populated.ensures c.if-all_populated.true))
 
 pub returns : goal.returns

@@ -7,15 +7,13 @@ use Rattle.printer.proofs.print_machine.Goals as goal
 
 pub finished-requires : goal.finished-requires
 finished-requires c =
-    let bytes = c.shared_slice_known-1.given in
     finished_asks _ _ _ _ _ _ _ c.requires.0 c.requires.1 (search rules) (search rules) c.run_accepted.ensures.is
-    _ c.in-Finished.is (λ i. omega (arith, bytes i)) _ _ refl c.run_accepted.ensures.out
+    _ c.in-Finished.is (λ i. omega (arith, c.type_inv.book i)) _ _ refl c.run_accepted.ensures.out
 
 pub returns-in-Finished : goal.returns-in-Finished
 returns-in-Finished c =
-    let bytes = c.shared_slice_known-1.given in
     let e = text_finished _ _ _ _ _ _ _ c.requires.0 c.requires.1 (search rules) (search rules) c.run_accepted.ensures.is
-    _ c.in-Finished.is (λ i. omega (arith, bytes i)) _ _ refl c.run_accepted.ensures.out in
+    _ c.in-Finished.is (λ i. omega (arith, c.type_inv.book i)) _ _ refl c.run_accepted.ensures.out in
     rw e c.finished.ensures
 
 pub returns-in-Running : goal.returns-in-Running
