@@ -1,7 +1,6 @@
 -- The phase tells which step it is, and that it is the own step of whatever stands there.
-use Prim.Native.Nat.{◌*◌}
+use borrow.Author.Rules.{rules}
 use mathlib.Core.Path.{sym, ap, ◌∙◌}
-use native.Mathlib.Omega.{arith}
 use Rattle.area.specs.declared.headers.Header.{Header}
 use Rattle.machine.proofs.Positions.{entered_steps, taken_steps, lacked_steps, joined_steps, near_word, high}
 use Rattle.machine.proofs.step.step.Goals as goal
@@ -30,7 +29,7 @@ leave_both-requires c =
     let r = c.wide.ensures ∙ ap (λ (h : Header). h.right) c.head-h.ensures in
     rw (l, r)
     (c.requires.0.joins (high (a.work).now a.i c.head-h.ensures c.requires.0.goes c.if-h-eq-PLACED.false c.if-h-eq-WAITING.false c.if-h-eq-NEGATED.false)
-    (near_word (a.work).now a.i (omega (arith, c.slice_known-1.given (a.i * 6)))))
+    (near_word (a.work).now a.i (search rules)))
 
 pub returns : goal.returns
 returns c =
