@@ -93,7 +93,8 @@ pub fn print_run(input: &[u8]) -> Text
 
 // Reads until the buffer is full or the input ends; gives how many bytes there are.
 fn read_full(from: &mut impl Read, buf: &mut [u8]) -> io::Result<usize>
-    ensures { IfOk result (λ n. IsPrefixLen n buf.new) }
+    ensures ok { IfOk result (λ n. IsPrefixLen n buf.new) }
+    ensures kept { length buf.new ≡ length buf.old }
 {
     let mut done = 0;
     while done < buf.len() {

@@ -7,7 +7,7 @@ mod judging;
 mod tallies;
 mod vectors;
 
-ghost use Rattle.std.specs.Prelude.{◌≤◌, IfOk, length};
+ghost use Rattle.std.specs.Prelude.{◌≡◌, ◌≤◌, IfOk, length};
 
 use std::io;
 use std::io::{Print, Read};
@@ -59,7 +59,8 @@ fn report(to: &impl Print, file: &[u8]) -> io::Result<()> {
 
 // Reads until the buffer is full or the input ends; gives how many bytes there are.
 fn read_full(from: &mut impl Read, buf: &mut [u8]) -> io::Result<usize>
-    ensures { IfOk result (λ n. n ≤ length buf.new) }
+    ensures ok { IfOk result (λ n. n ≤ length buf.new) }
+    ensures kept { length buf.new ≡ length buf.old }
 {
     let mut done = 0;
     while done < buf.len() {
