@@ -2,7 +2,7 @@
 """Respells the names that this repository gives its own definitions, lemmas, fields and cases, as today's Rattle spells them: words in
 snake case (`bodyStart` and `each-needed` become `body_start` and `each_needed`), types and modules as they were.
 
-    tools/respell.py          from the root, once, on what /opt's port.py has made of the older form
+    tools/respell.py          from the root, once, on what the kit's port.py has made of the older form
     tools/respell.py --list   prints the pairs, and changes nothing
 
 Left alone are the functions of src/ and what is exported, strings, the names that a check makes after the code (those of
