@@ -1,3 +1,4 @@
+-- The laws of the parts, their sets and their answers, for the proofs of the functions of this crate.
 pub mod WorkLaws
 pub mod Decoder
 pub mod Down

@@ -1,3 +1,4 @@
+-- The laws of the machine's states, choices and runs, for the proofs of the functions of this crate.
 pub mod Phases
 pub mod Fitting
 pub mod Positions

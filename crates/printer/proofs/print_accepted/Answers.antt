@@ -8,7 +8,10 @@ returns-then-rest-bytes c =
 
 pub returns-then-schedule-gt-MOST_CHOICES : goal.returns-then-schedule-gt-MOST_CHOICES
 returns-then-schedule-gt-MOST_CHOICES c =
-    rw (way_long_schedule _ _ _ c.requires c.if-rest-bytes.false c.if-schedule-gt-MOST_CHOICES.true, ← c.no_place-then-schedule-gt-MOST_CHOICES.ensures)
+    rw (
+      way_long_schedule _ _ _ c.requires c.if-rest-bytes.false c.if-schedule-gt-MOST_CHOICES.true,
+      ← c.no_place-then-schedule-gt-MOST_CHOICES.ensures,
+    )
     c.refused-then-schedule-gt-MOST_CHOICES.ensures
 
 pub returns : goal.returns

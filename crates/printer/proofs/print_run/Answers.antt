@@ -10,7 +10,8 @@ returns-then-input-lt2-clause-printed c = (told (rw (printed_no_length _ c.if-in
 pub returns-then-n-gt-MOST_BYTES-clause-printed : goal.returns-then-n-gt-MOST_BYTES-clause-printed
 returns-then-n-gt-MOST_BYTES-clause-printed c =
     let over = rw c.number_at-n.ensures at c.if-n-gt-MOST_BYTES.true in
-    (told (rw (printed_long_book _ c.if-input-lt2.false over, ← c.no_place-then-n-gt-MOST_BYTES.ensures) c.refused-then-n-gt-MOST_BYTES.ensures)).0
+    (told (rw (printed_long_book _ c.if-input-lt2.false over, ← c.no_place-then-n-gt-MOST_BYTES.ensures)
+    c.refused-then-n-gt-MOST_BYTES.ensures)).0
 
 pub returns-then-input-from-clause-printed : goal.returns-then-input-from-clause-printed
 returns-then-input-from-clause-printed c =

@@ -7,12 +7,14 @@ use Rattle.rows.proofs.order_at.Goals as goal
 
 pub returns-in-Less : goal.returns-in-Less
 returns-in-Less c =
-    sym (c.loop-f.invariant.2 ∙ four_less _ _ _ _ _ c.loop-f.f (four_fits _ c.args.r (omega arith) c.loop-f.invariant.1 c.requires.0) c.requires.1 c.requires.2
+    let m = four_fits _ c.args.r (omega arith) c.loop-f.invariant.1 c.requires.0 in
+    sym (c.loop-f.invariant.2 ∙ four_less _ _ _ _ _ c.loop-f.f m c.requires.1 c.requires.2
     (sym c.order4-o.ensures ∙ c.in-Less.is))
 
 pub returns-in-More : goal.returns-in-More
 returns-in-More c =
-    sym (c.loop-f.invariant.2 ∙ four_more _ _ _ _ _ c.loop-f.f (four_fits _ c.args.r (omega arith) c.loop-f.invariant.1 c.requires.0) c.requires.1 c.requires.2
+    let m = four_fits _ c.args.r (omega arith) c.loop-f.invariant.1 c.requires.0 in
+    sym (c.loop-f.invariant.2 ∙ four_more _ _ _ _ _ c.loop-f.f m c.requires.1 c.requires.2
     (sym c.order4-o.ensures ∙ c.in-More.is))
 
 pub loop-f-preserved : goal.loop-f-preserved

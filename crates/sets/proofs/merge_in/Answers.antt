@@ -48,7 +48,8 @@ returns-then-k-i c =
     let a = ascending_at g.m c.loop-j.j c.requires.1 (search rules) in
     let m = c.loop-j.invariant.1 in
     fits_over (cleared_all c.clear_rows.ensures c.requires.0.top m.zeros)
-    (merging_over c.loop-j.i g.e c.loop-j.k c.requires.0.top m _ _ (below g.r _ g.m _ (search rules) c.requires.1) a g.h g.m o c.if-k-i.true c.requires.0.low
+    (merging_over c.loop-j.i g.e c.loop-j.k c.requires.0.top m _ _
+    (below g.r _ g.m _ (search rules) c.requires.1) a g.h g.m o c.if-k-i.true c.requires.0.low
     (length_joined c.requires.0 c.requires.1) c.requires.0.room)
 
 pub loop-j-preserved : goal.loop-j-preserved
@@ -57,7 +58,8 @@ loop-j-preserved c =
     let o = sym c.weigh-o.ensures ∙ c.in-More.is in
     let a = ascending_at g.m c.loop-j.j c.requires.1 (search rules) in (
       omega arith,
-      merging_more c.loop-j.i g.e c.loop-j.k c.requires.0.top c.loop-j.invariant.1 _ _ (below g.r _ g.m _ (search rules) c.requires.1) a o c.if-k-i.false
+      merging_more c.loop-j.i g.e c.loop-j.k c.requires.0.top c.loop-j.invariant.1 _ _
+          (below g.r _ g.m _ (search rules) c.requires.1) a o c.if-k-i.false
           c.copy_row.ensures,
     )
 

@@ -8,7 +8,10 @@ use Rattle.rows.specs.Chunks.{rows_of}
 use Rattle.sets.proofs.place_in.Given as goal
 
 abbrev pub invariant-loop-i : goal.invariant-loop-i
-invariant-loop-i l = (l.i ≤ l.k) × (insert (take l.r l.p) (drop l.i (take l.k (rows_of l.r l.w))) ≡ take l.r l.p ∷ drop l.i (take l.k (rows_of l.r l.w)))
+invariant-loop-i l =
+    (l.i ≤ l.k)
+    × (insert (take l.r l.p) (drop l.i (take l.k (rows_of l.r l.w)))
+    ≡ take l.r l.p ∷ drop l.i (take l.k (rows_of l.r l.w)))
 
 abbrev pub decreases-loop-i : goal.decreases-loop-i
 decreases-loop-i l = l.i

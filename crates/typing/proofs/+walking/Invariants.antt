@@ -5,7 +5,9 @@ use Prim.Native.Nat.{◌+◌, ◌*◌}
 use Rattle.typing.proofs.+walking.Given as goal
 
 abbrev pub invariant-walk-loop-from : goal.invariant-walk-loop-from
-invariant-walk-loop-from l = Round l.s l.marks l.uses l.st l.d l.w (walked l.s l.way l.depth (tally_of l.from l.initial.marks l.initial.uses)) (open_of l.way) l.depth
+invariant-walk-loop-from l =
+    Round l.s l.marks l.uses l.st l.d l.w
+    (walked l.s l.way l.depth (tally_of l.from l.initial.marks l.initial.uses)) (open_of l.way) l.depth
 
 abbrev pub decreases-walk-loop-from : goal.decreases-walk-loop-from
 decreases-walk-loop-from l = l.d

@@ -28,7 +28,9 @@ leave_both-requires c =
     let l = c.wide-left.ensures ∙ ap (λ (h : Header). h.left) c.head-h.ensures in
     let r = c.wide.ensures ∙ ap (λ (h : Header). h.right) c.head-h.ensures in
     rw (l, r)
-    (c.requires.0.joins (high (a.work).now a.i c.head-h.ensures c.requires.0.goes c.if-h-eq-PLACED.false c.if-h-eq-WAITING.false c.if-h-eq-NEGATED.false)
+    (c.requires.0.joins
+    (high (a.work).now a.i c.head-h.ensures c.requires.0.goes c.if-h-eq-PLACED.false c.if-h-eq-WAITING.false
+    c.if-h-eq-NEGATED.false)
     (near_word (a.work).now a.i (search rules)))
 
 pub returns : goal.returns
@@ -36,5 +38,7 @@ returns c =
     let a = c.args in
     let l = c.wide-left.ensures ∙ ap (λ (h : Header). h.left) c.head-h.ensures in
     let r = c.wide.ensures ∙ ap (λ (h : Header). h.right) c.head-h.ensures in
-    joined_steps (high (a.work).now a.i c.head-h.ensures c.requires.0.goes c.if-h-eq-PLACED.false c.if-h-eq-WAITING.false c.if-h-eq-NEGATED.false) (rw
-    (l, r) at c.leave_both.ensures)
+    joined_steps
+    (high (a.work).now a.i c.head-h.ensures c.requires.0.goes c.if-h-eq-PLACED.false c.if-h-eq-WAITING.false
+    c.if-h-eq-NEGATED.false)
+    (rw (l, r) at c.leave_both.ensures)

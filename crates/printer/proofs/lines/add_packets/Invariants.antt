@@ -6,7 +6,9 @@ use Rattle.printer.proofs.TextLaws.{Partly}
 use Rattle.printer.proofs.lines.add_packets.Given as goal
 
 abbrev pub invariant-loop-left : goal.invariant-loop-left
-invariant-loop-left l = (l.left * l.k + l.at ≤ length l.words) × Partly l.initial.u (lines_of l.k l.count l.words) l.u (lines_of l.k l.left (drop l.at l.words))
+invariant-loop-left l =
+    (l.left * l.k + l.at ≤ length l.words)
+    × Partly l.initial.u (lines_of l.k l.count l.words) l.u (lines_of l.k l.left (drop l.at l.words))
 
 abbrev pub decreases-loop-left : goal.decreases-loop-left
 decreases-loop-left l = l.left
