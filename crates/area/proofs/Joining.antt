@@ -1,4 +1,5 @@
 -- Two sets in slots made one: copied out row by row, merged into a third slot, paired.
+use Rattle.std.specs.declared.cmp.Ordering.TheVariants.{Less, Equal, Greater}
 use Prim.Native.Nat.{ℕ, ◌+◌, ◌-◌, ◌≤◌, ◌<◌}
 use native.Mathlib.Omega.{arith}
 use native.Mathlib.Numerals.{add-one}
@@ -7,9 +8,10 @@ use mathlib.Core.Logic.{inl, inr, ⊎_elim}
 use mathlib.Core.List.{List, [], ◌∷◌, ◌++◌, append-nil, append_assoc}
 use lib.ListN.{length, take, drop, replicate, length-append, drop_of_length-le}
 use lib.Seq.{drop-cons, take_at, drop_at, length-take-le}
-use Rattle.rules.specs.declared.Order.TheVariants.{Less, Same, More}
 use Rattle.rules.specs.Packets.{Packet, Packets, order_of, Ascending, insert, union, mix, pairs_into, pairs, most_packets}
+use Rattle.std.specs.Prelude.{Option, Some, IsSome}
 use Rattle.rows.specs.Chunks.{chunks, rows_of, blank, Held, Fits, Copied}
+use Rattle.rows.proofs.Holding.{fits_some}
 use Rattle.rows.proofs.Chunks.{length_chunks, length_rows_lem, drop_replicate}
 use Rattle.sets.proofs.Rows.{ascending_drop}
 use Rattle.sets.proofs.Merging.{union_less, union_same, union_more}
@@ -109,7 +111,7 @@ module _ {w : List ℕ} {l r a b : ℕ} (x y : ℕ) (L : HasSet w l a) (R : HasS
           (union_less (packet_at w r y) (drop (y + 1) T) (rises g) (packet_at w l x ∷ drop (x + 1) S) e).1;
     }
 
-    pub lead_same : order_of (packet_at w l x) (packet_at w r y) ≡ Same
+    pub lead_same : order_of (packet_at w l x) (packet_at w r y) ≡ Equal
         → Leads w l r a b x y (record { slot = l; row = x; x = x + 1; y = y + 1 })
     lead_same e = record {
       slot = inl refl;
@@ -121,7 +123,7 @@ module _ {w : List ℕ} {l r a b : ℕ} (x y : ℕ) (L : HasSet w l a) (R : HasS
           (union_same (packet_at w r y) (drop (y + 1) T) (rises g) (packet_at w l x ∷ drop (x + 1) S) e).1;
     }
 
-    pub lead_more : order_of (packet_at w l x) (packet_at w r y) ≡ More → Leads w l r a b x y (record { slot = r; row = y; x = x; y = y + 1 })
+    pub lead_more : order_of (packet_at w l x) (packet_at w r y) ≡ Greater → Leads w l r a b x y (record { slot = r; row = y; x = x; y = y + 1 })
     lead_more e = record {
       slot = inr refl;
       row = omega (arith, R.slim);
@@ -214,8 +216,14 @@ lent_empty {v = v} {i} t = rw (lent_slot v i) t.held
 
 pub paired : {w v u ys p q : List ℕ} {i a b k : ℕ} (l r m : ℕ) → Held row_words p a (rows_at w l a) → Held row_words q b (rows_at w r b)
     → Tidied w v i 0
-    → Back v u i ys → length (pairs m (rows_at w l a) (rows_at w r b)) ≤ most_packets
-    → Fits row_words ys k (pairs m (take a (rows_of row_words p)) (take b (rows_of row_words q)))
+    → Back v u i ys
+    → Fits row_words ys (Some k) (pairs m (take a (rows_of row_words p)) (take b (rows_of row_words q)))
     → Filled w u i k (pairs m (rows_at w l a) (rows_at w r b))
-paired l r m hp hq t b few f =
-    filled (record { here = b.here; out = outside_then t.out b.out }) ((rw (hp.same, hq.same) at f).held few)
+paired l r m hp hq t b f =
+    filled (record { here = b.here; out = outside_then t.out b.out }) (rw (hp.same, hq.same) at f)
+
+-- where they are 16 or fewer, there is a count
+pub pairs_some : (w : List ℕ) {p q : List ℕ} {a b : ℕ} (l r m : ℕ) (ys : List ℕ) (o : Option ℕ) → Held row_words p a (rows_at w l a)
+    → Held row_words q b (rows_at w r b) → length (pairs m (rows_at w l a) (rows_at w r b)) ≤ most_packets
+    → Fits row_words ys o (pairs m (take a (rows_of row_words p)) (take b (rows_of row_words q))) → IsSome o
+pairs_some w l r m ys o hp hq few f = rw (fits_some row_words ys o _ (rw (hp.same, hq.same) at f) few).1 refl

@@ -7,7 +7,7 @@ ghost use Rattle.area.specs.Joins.{Leads};
 
 use crate::slots::{move_packet, tidy};
 use crate::{ROW_WORDS, SLOT_WORDS, SLOTS_FROM};
-use rules::Order;
+use std::cmp::Ordering;
 
 // The n packets of slot i in an array of their own, zeros after them.
 fn copy_out(work: &[u16], i: usize, n: usize) -> [u16; SLOT_WORDS]
@@ -95,11 +95,11 @@ pub fn pair_slots(
     tidy(work, i, 0);
     let to = SLOTS_FROM + i * SLOT_WORDS;
     let end = to + SLOT_WORDS;
-    sets::pairs_into(&mut work[to..end], &x, a, &y, b, w, ROW_WORDS)
+    sets::pairs_into(&mut work[to..end], &x, a, &y, b, w, ROW_WORDS).unwrap()
 }
 
 // How packet x of slot l lies to packet y of slot r.
-fn order_packets(work: &[u16], l: usize, x: usize, r: usize, y: usize) -> Order
+fn order_packets(work: &[u16], l: usize, x: usize, r: usize, y: usize) -> Ordering
     requires { (l < positions) × (x < most_packets) × (r < positions) × (y < most_packets) × (area_words ≤ length work.now) }
     ensures { result ≡ order_of (packet_at work.now l x) (packet_at work.now r y) }
 {
@@ -144,9 +144,9 @@ fn lead(work: &[u16], l: usize, r: usize, a: usize, b: usize, x: usize, y: usize
     }
     let o = order_packets(work, l, x, r, y);
     match o {
-        Order::Less => taking(l, x, x + 1, y),
-        Order::Same => taking(l, x, x + 1, y + 1),
-        Order::More => taking(r, y, x, y + 1),
+        Ordering::Less => taking(l, x, x + 1, y),
+        Ordering::Equal => taking(l, x, x + 1, y + 1),
+        Ordering::Greater => taking(r, y, x, y + 1),
     }
 }
 

@@ -9,20 +9,29 @@ ghost use Rattle.rules.specs.Reading.{number_at, length_at, reads_at, writes_at,
 ghost use Rattle.rules.specs.Reading.{field_wrong, masks_wrong, table_wrong, operands_wrong, operands_at, read_operands};
 ghost use Rattle.book.specs.Operands.{WrongPlace, Within};
 
-use rules::{Head, Reading};
+use rules::Head;
+
+// The codes with operands.
+const TEST: u8 = 2;
+
+const SET: u8 = 3;
+
+const BESIDE: u8 = 7;
+
+const TABLE: u8 = 8;
+
+// The limits of 1 and 2.
+const MOST_BYTES: usize = 4096;
+
+const MOST_FIELDS: u8 = 8;
+
+const MOST_TABLES: u8 = 15;
 
 // The byte at a place, 0 past the end.
 pub fn byte_at(s: &[u8], at: usize) -> u8
     ensures { result ≡ get_or s.now at 0 }
 {
-    if at < s.len() { s[at] } else { 0 }
-}
-
-// The number in two bytes, high byte first.
-fn number_of(high: u8, low: u8) -> u16
-    ensures { result ≡ high * 256 + low }
-{
-    high as u16 * 256 + low as u16
+    s.get(at).copied().unwrap_or(0)
 }
 
 // The two-byte number at a place; 0 past the end.
@@ -30,28 +39,9 @@ pub fn number_at(s: &[u8], at: usize) -> u16
     ensures { result ≡ number_at s.now at }
 {
     if at < s.len() {
-        number_of(s[at], byte_at(s, at + 1))
+        u16::from_be_bytes([s[at], byte_at(s, at + 1)])
     } else {
         0
-    }
-}
-
-// The head of the part at a place, less than four bytes from the end.
-fn cut_head(s: &[u8], at: usize) -> Head
-    requires { at < length s.now }
-    ensures { result ≡ head_at s.now at }
-{
-    let code = s[at];
-    let first = byte_at(s, at + 1);
-    let shape = rules::shape_of(code);
-    Head {
-        code,
-        field: first,
-        value: number_at(s, at + 2),
-        left: first,
-        right: byte_at(s, at + 2),
-        table: first,
-        from: at + 1 + shape.operands,
     }
 }
 
@@ -70,106 +60,92 @@ pub fn head_at(s: &[u8], at: usize) -> Head
             from: at,
         };
     }
-    if s.len() - at < 4 {
-        return cut_head(s, at);
-    }
     let code = s[at];
-    let first = s[at + 1];
-    let second = s[at + 2];
+    let first = byte_at(s, at + 1);
     let shape = rules::shape_of(code);
     Head {
         code,
         field: first,
-        value: number_of(second, s[at + 3]),
+        value: number_at(s, at + 2),
         left: first,
-        right: second,
+        right: byte_at(s, at + 2),
         table: first,
         from: at + 1 + shape.operands,
     }
 }
 
-// ---- operands: the place of the first that is there and cannot stand, 0 if none
+// ---- operands: the place of the first that is there and cannot stand
 
 // A field of k or more.
-fn field_wrong(s: &[u8], at: usize) -> usize
+fn field_wrong(s: &[u8], at: usize) -> Option<usize>
     requires { at < length s.now }
     ensures { WrongPlace s.now at (field_wrong (fields_of s.now) (operands_at s.now 2 at)) result }
 {
-    if s.len() <= at + 1 {
-        return 0;
+    if at + 1 < s.len() && s[0] <= s[at + 1] {
+        Some(at + 1)
+    } else {
+        None
     }
-    if s[at + 1] < s[0] { 0 } else { at + 1 }
 }
 
-// A mask with a bit at k or above.
-fn masks_wrong(s: &[u8], at: usize) -> usize
+// A mask with a bit at k or above; one that is not there has no bit.
+fn masks_wrong(s: &[u8], at: usize) -> Option<usize>
     requires { at < length s.now }
     ensures { WrongPlace s.now at (masks_wrong (fields_of s.now) (operands_at s.now 7 at)) result }
 {
-    let left = s.len() - at;
-    if left < 2 {
-        return 0;
+    if !small_mask(byte_at(s, at + 1), s[0]) {
+        return Some(at + 1);
     }
-    if !small_mask(s[at + 1], s[0]) {
-        return at + 1;
-    }
-    if left < 3 {
-        return 0;
-    }
-    if small_mask(s[at + 2], s[0]) {
-        0
+    if small_mask(byte_at(s, at + 2), s[0]) {
+        None
     } else {
-        at + 2
+        Some(at + 2)
     }
 }
 
 // A table number outside 1 to m.
-fn table_wrong(s: &[u8], at: usize) -> usize
+fn table_wrong(s: &[u8], at: usize) -> Option<usize>
     requires { at < length s.now }
     ensures { WrongPlace s.now at (table_wrong (tables_of s.now) (operands_at s.now 8 at)) result }
 {
-    if s.len() <= at + 1 {
-        return 0;
+    if at + 1 < s.len() && !(1..=s[1]).contains(&s[at + 1]) {
+        Some(at + 1)
+    } else {
+        None
     }
-    let x = s[at + 1];
-    if x == 0 {
-        return at + 1;
-    }
-    if x <= s[1] { 0 } else { at + 1 }
 }
 
-fn operand_wrong(s: &[u8], code: u8, at: usize) -> usize
+fn operand_wrong(s: &[u8], code: u8, at: usize) -> Option<usize>
     requires { at < length s.now }
     ensures { WrongPlace s.now at
         (operands_wrong (fields_of s.now) (tables_of s.now) code (operands_at s.now code at)) result }
 {
     match code {
-        2 | 3 => field_wrong(s, at),
-        7 => masks_wrong(s, at),
-        8 => table_wrong(s, at),
-        _ => 0,
+        TEST | SET => field_wrong(s, at),
+        BESIDE => masks_wrong(s, at),
+        TABLE => table_wrong(s, at),
+        _ => None,
     }
 }
 
 // The operands of a code that stands at a place, judged together: where they end, the place of the first that cannot stand, or the
 // end of the bytes where they are cut.
-pub fn read_operands(s: &[u8], code: u8, at: usize) -> Reading
+pub fn read_operands(s: &[u8], code: u8, at: usize) -> Result<usize, usize>
     ensures { (result ≡ read_operands s.now (fields_of s.now) (tables_of s.now) code at)
         × Within (length s.now) result }
 {
     if s.len() <= at {
-        return Reading::Wrong(s.len());
+        return Err(s.len());
     }
-    let wrong = operand_wrong(s, code, at);
-    if wrong != 0 {
-        return Reading::Wrong(wrong);
+    if let Some(wrong) = operand_wrong(s, code, at) {
+        return Err(wrong);
     }
     let shape = rules::shape_of(code);
     let end = at + 1 + shape.operands;
     if s.len() < end {
-        return Reading::Wrong(s.len());
+        return Err(s.len());
     }
-    Reading::Next(end)
+    Ok(end)
 }
 
 // The place after the part at a place, at most depth deep. Past the end and below the depth stands nothing.
@@ -181,46 +157,43 @@ pub fn place_after(s: &[u8], at: usize, depth: usize) -> usize
     }
     let h = head_at(s, at);
     let shape = rules::shape_of(h.code);
-    let parts = shape.parts;
-    if parts == 0 {
-        return h.from;
+    match shape.parts {
+        0 => h.from,
+        1 => place_after(s, h.from, depth - 1),
+        _ => {
+            let middle = place_after(s, h.from, depth - 1);
+            place_after(s, middle, depth - 1)
+        }
     }
-    let middle = place_after(s, h.from, depth - 1);
-    if parts == 1 {
-        return middle;
-    }
-    place_after(s, middle, depth - 1)
 }
 
 // The length of the body of entry x, as its contents state it.
 pub fn length_of(s: &[u8], x: u8) -> usize
     ensures { (result ≡ length_at s.now x) × (result ≤ 65535) }
 {
-    number_at(s, 2 + 4 * (x as usize)) as usize
+    usize::from(number_at(s, 2 + 4 * usize::from(x)))
 }
 
 // The masks R and W of entry x.
 pub fn reads_of(s: &[u8], x: u8) -> u8
     ensures { result ≡ reads_at s.now x }
 {
-    byte_at(s, 4 + 4 * (x as usize))
+    byte_at(s, 4 + 4 * usize::from(x))
 }
 
 pub fn writes_of(s: &[u8], x: u8) -> u8
     ensures { result ≡ writes_at s.now x }
 {
-    byte_at(s, 5 + 4 * (x as usize))
+    byte_at(s, 5 + 4 * usize::from(x))
 }
 
 // Where the body of entry x starts, by the stated lengths.
 pub fn body_start(s: &[u8], x: u8) -> usize
     ensures { (result ≡ body_start s.now x) × (result ≤ 1026 + 65535 * x) }
 {
-    let mut at = 6 + 4 * (byte_at(s, 1) as usize);
-    let mut i: u8 = 0;
-    while i < x {
-        at = at + length_of(s, i);
-        i += 1;
+    let mut at = 6 + 4 * usize::from(byte_at(s, 1));
+    for i in 0..x {
+        at += length_of(s, i);
     }
     at
 }
@@ -229,7 +202,7 @@ pub fn body_start(s: &[u8], x: u8) -> usize
 pub fn small_mask(b: u8, k: u8) -> bool
     ensures { result ≡ in_fields k b }
 {
-    if k < 8 { b < 1u8 << k } else { true }
+    MOST_FIELDS <= k || b < 1 << k
 }
 
 // Have the masks of entry x no common field and no bit at k or above?
@@ -238,14 +211,7 @@ fn entry_masks(book: &[u8], x: u8, k: u8) -> bool
 {
     let r = reads_of(book, x);
     let w = writes_of(book, x);
-    if r & w != 0 {
-        return false;
-    }
-    if small_mask(r, k) {
-        small_mask(w, k)
-    } else {
-        false
-    }
+    r & w == 0 && small_mask(r, k) && small_mask(w, k)
 }
 
 // The masks of all entries, populated or not.
@@ -253,12 +219,8 @@ pub fn masks_right(book: &[u8]) -> bool
     ensures { result ≡ masks_right book.now (suc (tables_of book.now)) 0 }
 {
     let k = byte_at(book, 0);
-    let m = byte_at(book, 1) as usize;
-    let mut x: usize = 0;
-    while x <= m {
-        if entry_masks(book, x as u8, k) {
-            x += 1;
-        } else {
+    for x in 0..=byte_at(book, 1) {
+        if !entry_masks(book, x, k) {
             return false;
         }
     }
@@ -269,15 +231,12 @@ pub fn masks_right(book: &[u8]) -> bool
 pub fn length_right(n: usize) -> bool
     ensures { result ≡ (leb 2 n && leb n most_bytes) }
 {
-    if n < 2 { false } else { n <= 4096 }
+    (2..=MOST_BYTES).contains(&n)
 }
 
 // 1 to 8 fields, at most 15 tables (2).
 pub fn counts_right(k: u8, m: u8) -> bool
     ensures { result ≡ (leb 1 k && (leb k most_fields && leb m most_tables)) }
 {
-    if k < 1 {
-        return false;
-    }
-    if k <= 8 { m <= 15 } else { false }
+    (1..=MOST_FIELDS).contains(&k) && m <= MOST_TABLES
 }

@@ -1,5 +1,7 @@
 -- The evaluator's contract in the words of demand 2: the answer is the only one, buffer included (`unique`), and a packet set that is
 -- given is exactly what the published meaning gives, ascending, at the front of the result, all other words kept (`published`).
+use Rattle.std.specs.Prelude.{Ok, Result}
+use Rattle.rules.specs.declared.Refusal.{Refusal}
 use Prim.Native.Nat.{ℕ, ◌*◌, ◌≤◌}
 use native.Mathlib.Omega.{arith}
 use mathlib.Core.Path.{◌≡◌, sym, ap, ◌∙◌}
@@ -8,8 +10,6 @@ use mathlib.Core.List.{List, ◌++◌}
 use lib.ListN.{length, take, drop, length-map}
 use lib.Seq.{take_at, drop_at}
 use Rattle.rules.specs.declared.Outcome.{Outcome}
-use Rattle.rules.specs.declared.Evaluated.{Evaluated}
-use Rattle.rules.specs.declared.Evaluated.TheVariants.{Given}
 use Rattle.rules.specs.Packets.{Packet, Packets, most_packets, Ascending, ◌∈◌, values_of}
 use Rattle.rules.specs.Parts.{parts, deep}
 use Rattle.rules.specs.Meaning.{Gives}
@@ -25,7 +25,7 @@ use Rattle.rules.proofs.Ends.{values_map, length_values}
 use Rattle.rules.proofs.Demands.{packets_exactly, packets_ascending, packets_determined}
 
 -- whatever two answers, with their buffers, meet the contract, they are the same
-pub unique : (book packet before : List ℕ) {after after' : List ℕ} {r r' : Evaluated} → EvaluateAnswer book packet before r after
+pub unique : (book packet before : List ℕ) {after after' : List ℕ} {r r' : Result Outcome Refusal} → EvaluateAnswer book packet before r after
     → EvaluateAnswer book packet before r' after' → (r ≡ r') × (after ≡ after')
 unique book packet before a b = (a.is ∙ sym b.is, a.out ∙ sym b.out)
 
@@ -45,7 +45,7 @@ pub record Published (book packet before after : List ℕ) (o : Outcome) : Type 
   pub room : o.room ≡ room (main_of book) (start_set packet)
 
 pub published : (book packet before after : List ℕ) (o : Outcome) → Bytes book
-    → EvaluateAnswer book packet before (Given o) after
+    → EvaluateAnswer book packet before (Ok o) after
     → Published book packet before after o
 unfolding outcome given evaluated_result overwritten
 published s p b a o small answer =

@@ -1,4 +1,5 @@
 -- The whole answer: what each return of evaluate says (document 01, the numbers 1 to 7, then 8, 12, 9, 10).
+use Rattle.std.specs.Prelude.{Err, Ok}
 use Prim.Native.Nat.{ℕ, ◌*◌, ◌≤◌, ◌<◌}
 use native.Mathlib.Omega.{arith}
 use native.Mathlib.Nat.{suc-mul, mul-le-mul_right}
@@ -10,9 +11,7 @@ use borrow.Author.Tests.{le-leb}
 use Rattle.rules.specs.declared.Refusal.{Refusal}
 use Rattle.rules.specs.declared.Reason.TheVariants.{PacketLength, BufferLength, Unpopulated, TooWide}
 use Rattle.rules.specs.declared.Sizes.{Sizes}
-use Rattle.rules.specs.declared.Verdict.TheVariants.{Accepted, Refused}
 use Rattle.rules.specs.declared.Outcome.{Outcome}
-use Rattle.rules.specs.declared.Evaluated.TheVariants.{Given, NotGiven}
 use Rattle.rules.specs.Packets.{places, Packets, most_packets, values_of}
 use Rattle.rules.specs.Parts.{names_open}
 use Rattle.rules.specs.Books.{most_depth}
@@ -50,11 +49,11 @@ fits_in : (k n v : ℕ) {l : ℕ} → v ≤ n * k → n ≤ most_packets → 16 
 fits_in k n v h few room = omega (arith, mul-le-mul_right k few)
 
 -- a refusal leaves the result buffer as it was
-not_given : (s p b : List ℕ) (why : Refusal) → evaluated s p (length b) ≡ NotGiven why → EvaluateAnswer s p b (NotGiven why) b
+not_given : (s p b : List ℕ) (why : Refusal) → evaluated s p (length b) ≡ Err why → EvaluateAnswer s p b (Err why) b
 not_given s p b why e = evaluate_answer (sym e) (sym (not_given_keeps s p b why e))
 
 -- the fields of an accepted book
-module _ (s : List ℕ) (z : Sizes) (v : verdict s ≡ Accepted z) where
+module _ (s : List ℕ) (z : Sizes) (v : verdict s ≡ Ok z) where
   fields_are : z.fields ≡ fields_of s
   unfolding sizes_of
   fields_are = ap (λ (y : Sizes). y.fields) (accepted_sizes s z v)
@@ -63,43 +62,43 @@ module _ (s : List ℕ) (z : Sizes) (v : verdict s ≡ Accepted z) where
   fields_some = rw fields_are (accepted_fields s z v)
 
 module _ (s p b : List ℕ) where
-  pub refused : (why : Refusal) → Refused why ≡ verdict s → EvaluateAnswer s p b (NotGiven why) b
+  pub refused : (why : Refusal) → Err why ≡ verdict s → EvaluateAnswer s p b (Err why) b
   refused why e = not_given s p b why (evaluated_refused s p (length b) why (sym e))
 
-  module _ (z : Sizes) (says : verdict s ≡ Accepted z) where
-    pub wrong_packet : (length p ≡ z.fields → ⊥) → EvaluateAnswer s p b (NotGiven (no_place PacketLength)) b
+  module _ (z : Sizes) (says : verdict s ≡ Ok z) where
+    pub wrong_packet : (length p ≡ z.fields → ⊥) → EvaluateAnswer s p b (Err (no_place PacketLength)) b
     wrong_packet h = not_given s p b _ (evaluated_packet s p (length b) z says (λ q. h (q ∙ sym (fields_are s z says))))
 
     module _ (long : length p ≡ z.fields) where
       words : length p ≡ fields_of s
       words = long ∙ fields_are s z says
 
-      pub wrong_buffer : length b < 16 * z.fields → EvaluateAnswer s p b (NotGiven (no_place BufferLength)) b
+      pub wrong_buffer : length b < 16 * z.fields → EvaluateAnswer s p b (Err (no_place BufferLength)) b
       wrong_buffer h = not_given s p b _ (evaluated_buffer s p (length b) z says words (rw (fields_are s z says) at h))
 
       module _ (space : 16 * z.fields ≤ length b) (r : Passage) (v : List ℕ) (passes : Passes s p r v) where
         enough : most_packets * fields_of s ≤ length b
         enough = rw (fields_are s z says) at space
 
-        pub unpopulated : r ≡ Open → EvaluateAnswer s p b (NotGiven (no_place Unpopulated)) b
+        pub unpopulated : r ≡ Open → EvaluateAnswer s p b (Err (no_place Unpopulated)) b
         unfolding Passes
         unpopulated q = not_given s p b _ (evaluated_open s p (length b) z says words enough (rw q at passes))
 
-        pub too_wide : r ≡ Wide → EvaluateAnswer s p b (NotGiven (no_place TooWide)) b
+        pub too_wide : r ≡ Wide → EvaluateAnswer s p b (Err (no_place TooWide)) b
         unfolding Passes
         too_wide q =
             let w : WideIn s p = rw q at passes in
             not_given s p b _ (evaluated_wide s p (length b) z says words enough w.populated w.wide)
 
       module _ (space : 16 * z.fields ≤ length b) (w : Weight) (v : List ℕ) (g : Passed s p w v) where
-        within : evaluated s p (length b) ≡ Given (outcome s p)
+        within : evaluated s p (length b) ≡ Ok (outcome s p)
         within =
             evaluated_given s p (length b)
             (record { sizes = z; accepted = says; words = words; populated = g.populated; narrow = g.narrow })
             (rw (fields_are s z says) at space)
 
         pub given_is : (f : Bool) (o : List ℕ) → Emitted f (values_of z.fields (packets_of w.count v)) b o
-            → EvaluateAnswer s p b (Given (outcome_of w z)) o
+            → EvaluateAnswer s p b (Ok (outcome_of w z)) o
         unfolding evaluated_result overwritten given outcome sizes_of
         given_is f o m =
             let y = accepted_sizes s z says in
@@ -111,7 +110,7 @@ module _ (s p b : List ℕ) where
 
 -- ---- a packet through the main policy
 
-pub passable : (s p : List ℕ) (z : Sizes) → verdict s ≡ Accepted z → length p ≡ z.fields → Passable s p
+pub passable : (s p : List ℕ) (z : Sizes) → verdict s ≡ Ok z → length p ≡ z.fields → Passable s p
 passable s p z says long = record { accepted = (z, says); words = long ∙ fields_are s z says }
 
 pub went_through : (s p : List ℕ) (r : Passage) (v : List ℕ) → Passes s p r v → (w : Weight) → r ≡ Through w → Passed s p w v
@@ -148,7 +147,7 @@ module _ (s : List ℕ) (start : ℕ) (e : start ≡ body_start s 0) where
   open_is k = rw (← e) (sym k.found)
 
   -- what evaluation of the main policy asks of an accepted book
-  pub main_fair : (z : Sizes) → verdict s ≡ Accepted z → names_open (main_of s) ≡ false → Fair (part_in s true most_depth start)
+  pub main_fair : (z : Sizes) → verdict s ≡ Ok z → names_open (main_of s) ≡ false → Fair (part_in s true most_depth start)
   main_fair z v closed =
       rw (main_is s start e) (record { few = accepted_parts s z v; shallow = accepted_deep s z v; closed = closed })
 

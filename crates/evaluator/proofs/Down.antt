@@ -11,6 +11,7 @@ use Rattle.rules.specs.Parts.{Part, Not, Sum, Seq, Beside, Table, parts, deep, n
 use Rattle.rules.specs.Reading.{part_at, after}
 use Rattle.rules.specs.Working.{each, out, steps, room, own, width}
 use Rattle.rules.proofs.Bounds.{limit, room_steps, handed, width_one, width_more}
+use Rattle.std.specs.Prelude.{Option}
 use Rattle.rows.specs.Chunks.{rows_of, Packed, Held, Fits}
 use Rattle.sets.specs.Whole.{packets_of, packet_at}
 use Rattle.sets.proofs.Rows.{slice_at, slice_end}
@@ -145,15 +146,15 @@ pub goes_on : {p : Part} {rs rs' : Packets} {v v' : List ℕ} {a b : Worked} (s 
 goes_on s named n at d e b = rw (d.fine e).next at b
 
 -- what was joined
-abbrev pub Joint : ℕ → Worked → Worked → Worked → Type 0
+abbrev pub Joint : Option ℕ → Worked → Worked → Worked → Type 0
 Joint c a b r = (s : Packets) (v : List ℕ) → Fits places v c s → Joins s v a b r
 
 -- sum
-pub did_sum : {p q : Part} {s : Packets} {n k c : ℕ} {v w u : List ℕ} {a b r : Worked}
+pub did_sum : {p q : Part} {s : Packets} {n k : ℕ} (c : Option ℕ) {v w u : List ℕ} {a b r : Worked}
     → Did p s n v a → a.wide ≡ false → Did q s k w b → b.wide ≡ false → Joint c a b r
     → Fits places u c (union (packets_of a.count v) (packets_of b.count w)) → Did (Sum p q) s k u r
 unfolding out steps room width own
-did_sum {p} {q} {s} {n} {k} {c} {v} {w} {u} {a} {b} {r} d e d' e' j f =
+did_sum {p} {q} {s} {n} {k} c {v} {w} {u} {a} {b} {r} d e d' e' j f =
     let g = d.fine e in
     let g' = d'.fine e' in
     let i = j (union (out p s) (out q s)) u (rw (g.held.same, g'.held.same) at f) in
@@ -213,11 +214,11 @@ module _ {wp wq : ℕ} {p q : Part} where
     pub over_beside_right : Did q (without wp x ∷ []) n v a → a.wide ≡ true → Did (Beside wp wq p q) (x ∷ []) k w a
     over_beside_right d e = did_over e (omega (arith, d.over e, width_one wp wq p q x))
 
-  pub did_pair : {n k c : ℕ} {x : Packet} {v w u : List ℕ} {a b r : Worked}
+  pub did_pair : {n k : ℕ} (c : Option ℕ) {x : Packet} {v w u : List ℕ} {a b r : Worked}
       → Did p (without wq x ∷ []) n v a → a.wide ≡ false → Did q (without wp x ∷ []) k w b → b.wide ≡ false → Joint c a b r
       → Fits places u c (pairs wq (packets_of a.count v) (packets_of b.count w)) → Did (Beside wp wq p q) (x ∷ []) k u r
   unfolding out steps room each own
-  did_pair {n} {k} {c} {x} {v} {w} {u} {a} {b} {r} d e d' e' j f =
+  did_pair {n} {k} c {x} {v} {w} {u} {a} {b} {r} d e d' e' j f =
       let g = d.fine e in
       let g' = d'.fine e' in
       let i = j (pairs wq (out p (without wq x ∷ [])) (out q (without wp x ∷ []))) u (rw (g.held.same, g'.held.same) at f) in
@@ -232,12 +233,12 @@ module _ {wp wq : ℕ} {p q : Part} where
         };
       }
 
-  split : {n k c : ℕ} {x : Packet} (s : Packets) {v w u : List ℕ} {a b r : Worked} → length (x ∷ s) ≤ most_packets → 0 < length s
+  split : {n k : ℕ} (c : Option ℕ) {x : Packet} (s : Packets) {v w u : List ℕ} {a b r : Worked} → length (x ∷ s) ≤ most_packets → 0 < length s
       → Did (Beside wp wq p q) (x ∷ []) n v a → a.wide ≡ false → Did (Beside wp wq p q) s k w b → b.wide ≡ false → Joint c a b r
       → Fits places u c (union (packets_of a.count v) (packets_of b.count w)) → Did (Beside wp wq p q) (x ∷ s) k u r
   unfolding out steps room each own
-  split [] few some d e d' e' j f = absurd (omega arith)
-  split {n} {k} {c} {x} (y ∷ s) {v} {w} {u} {a} {b} {r} few some d e d' e' j f =
+  split c [] few some d e d' e' j f = absurd (omega arith)
+  split {n} {k} c {x} (y ∷ s) {v} {w} {u} {a} {b} {r} few some d e d' e' j f =
       let g = d.fine e in
       let g' = d'.fine e' in
       let i = j (union (out (Beside wp wq p q) (x ∷ [])) (out (Beside wp wq p q) (y ∷ s))) u (rw (g.held.same, g'.held.same) at f) in
@@ -266,16 +267,16 @@ module _ {wp wq : ℕ} {p q : Part} where
       pub walk_last : i + 1 ≡ n → Did (Beside wp wq p q) (drop i (packets_of n v)) m x a
       walk_last e = rw (from_here i k h, slice_end (rows_of places v) (i + 1) n (omega arith)) d
 
-      pub walk_split : {k c : ℕ} {w u : List ℕ} {b r : Worked} → a.wide ≡ false → i + 1 < n
+      pub walk_split : {k : ℕ} (c : Option ℕ) {w u : List ℕ} {b r : Worked} → a.wide ≡ false → i + 1 < n
           → Did (Beside wp wq p q) (drop (i + 1) (packets_of n v)) k w b → b.wide ≡ false → Joint c a b r
           → Fits places u c (union (packets_of a.count x) (packets_of b.count w))
           → Did (Beside wp wq p q) (drop i (packets_of n v)) k u r
-      walk_split e l d' e' j f =
+      walk_split c e l d' e' j f =
           let all = length_packets places v n k.room in
           let few : length (packet_at v i ∷ drop (i + 1) (packets_of n v)) ≤ most_packets =
           rw (length-drop, all) (omega (arith, k.room)) in
           let some : 0 < length (drop (i + 1) (packets_of n v)) = rw (length-drop, all) (omega arith) in
-          rw (from_here i k h) (split (drop (i + 1) (packets_of n v)) few some d e d' e' j f)
+          rw (from_here i k h) (split c (drop (i + 1) (packets_of n v)) few some d e d' e' j f)
 
     pub walk_rest : {k : ℕ} {x w : List ℕ} {b : Worked} → i < n → Did (Beside wp wq p q) (drop (i + 1) (packets_of n v)) m x b
         → b.wide ≡ true

@@ -5,13 +5,14 @@ use mathlib.Core.Path.{◌≡◌, refl, sym, ◌∙◌}
 use mathlib.Core.Bool.{Bool, true, false}
 use mathlib.Core.List.{List, [], map}
 use lib.ListN.{length}
+use Rattle.std.specs.Prelude.{Some, None}
 use Rattle.rules.specs.Packets.{places, Packets, passes, put, keep, lacks, gathered, most_packets}
 use Rattle.rules.specs.Parts.{Part, Id, Drop, Test, Set, Not, Seq, Beside, Table}
 use Rattle.rules.specs.Working.{each, out, steps, room, own, widest, width}
 use Rattle.rules.proofs.Bounds.{handed, given}
 use Rattle.rows.specs.Chunks.{Packed, Held, Fits}
 use Rattle.sets.specs.Whole.{packets_of}
-use Rattle.rows.proofs.Holding.{held_self, held_few, fits_few, fits_many}
+use Rattle.rows.proofs.Holding.{held_self, held_few}
 use Rattle.evaluator.specs.Work.{worked, NotWide, Did, Joins}
 use Rattle.evaluator.specs.declared.Worked.{Worked}
 
@@ -67,20 +68,20 @@ did_not {v} {n} q {x} {w} {c} a h p k f =
     })
 
 -- a union or a pairing that fits, and one that does not
-module _ (c : ℕ) (a b : Worked) where
-  pub joins_fits : c ≤ 16 → (s : Packets) (v : List ℕ) → Fits places v c s
+module _ (a b : Worked) where
+  pub joins_fits : (c : ℕ) (s : Packets) (v : List ℕ) → Fits places v (Some c) s
       → Joins s v a b (worked c (a.steps + b.steps + 2) (1 + (a.room + b.room)) b.next)
-  joins_fits h s v f = record {
+  joins_fits c s v f = record {
     over = λ e. no (sym e);
-    held = λ _. f.held (fits_few f h);
+    held = λ _. f;
     steps = λ _. refl;
     room = λ _. refl;
     next = λ _. refl;
   }
 
-  pub joins_not : (r : Worked) → 16 < c → r.wide ≡ true → (s : Packets) (v : List ℕ) → Fits places v c s → Joins s v a b r
-  joins_not r h w s v f = record {
-    over = λ _. fits_many f h;
+  pub joins_not : (r : Worked) → r.wide ≡ true → (s : Packets) (v : List ℕ) → Fits places v None s → Joins s v a b r
+  joins_not r w s v f = record {
+    over = λ _. f.0;
     held = λ e. no (sym w ∙ e);
     steps = λ e. no (sym w ∙ e);
     room = λ e. no (sym w ∙ e);

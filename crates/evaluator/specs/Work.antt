@@ -1,12 +1,11 @@
 -- What the evaluator's functions require and give: a part at a place on an array of packets, or the news that it is too wide; the whole
 -- answer. The field mask is not needed: a field that a position lacks holds 0.
-use Rattle.std.specs.Prelude.{ℕ, ◌+◌, ◌≤◌, ◌<◌, ◌≡◌, Bool, true, false, List, length}
+use Rattle.std.specs.Prelude.{ℕ, ◌+◌, ◌≤◌, ◌<◌, ◌≡◌, Bool, true, false, List, length, Ok}
 use Rattle.rules.specs.Packets.{places, Packets, most_packets}
 use Rattle.rules.specs.Parts.{Part, Not, Sum, Seq, Beside, parts, deep, names_open}
 use Rattle.rules.specs.Books.{most_parts, most_beside, no_use}
 use Rattle.rules.specs.declared.Head.{Head}
 use Rattle.rules.specs.declared.Sizes.{Sizes}
-use Rattle.rules.specs.declared.Verdict.TheVariants.{Accepted}
 use Rattle.rules.specs.Reading.{length_at, tables_of, verdict, part_at, use_at, after}
 use Rattle.rules.specs.Working.{out, steps, room, width}
 use Rattle.rows.specs.Chunks.{Held}
@@ -82,7 +81,7 @@ pub record Sees (p : Part) (n : ℕ) (r : Looked) : Type 0 where
 
 -- an accepted book; a book whose tables all have a body
 abbrev pub IsAccepted : List ℕ → Type 0
-IsAccepted s = (z : Sizes) × (verdict s ≡ Accepted z)
+IsAccepted s = (z : Sizes) × (verdict s ≡ Ok z)
 
 abbrev pub Populated : List ℕ → Type 0
 Populated s = (x : ℕ) → 0 < x → x ≤ tables_of s → length_at s x ≡ 0 → ⊥

@@ -4,7 +4,7 @@
 #![tactic(auto)]
 
 ghost use Rattle.std.specs.Prelude.{◌≡◌, true, false, List, [], ◌∷◌, ℕ, ◌≤◌, max, length, take, drop};
-ghost use Rattle.rules.specs.declared.Verdict.TheVariants.{Accepted};
+ghost use Rattle.std.specs.Prelude.{Ok};
 ghost use Rattle.rules.specs.Packets.{places, Packets, keep, lacks};
 ghost use Rattle.rules.specs.Parts.{Part, Drop, Test, Set, Not, Seq, Beside, Table, names_open};
 ghost use Rattle.rules.specs.Reading.{after, use_at, part_at, main_of, verdict};
@@ -18,7 +18,7 @@ ghost use Rattle.evaluator.specs.Work.{after_two, Fair, NotWide, Did, Small, Joi
 ghost use Rattle.evaluator.specs.Passing.{Passable, Passes, Weighs};
 
 use rows::MOST;
-use rules::{Evaluated, Head, Outcome, Reason, Sizes, Verdict};
+use rules::{Head, Outcome, Reason, Refusal, Sizes};
 use sets::{PLACES, Values};
 
 // What a part gives on the packets of a lent array: too wide, or how many they are then, its steps and its room, and the place after it.
@@ -131,14 +131,15 @@ fn not_of(v: &mut Values, n: usize, x: &Values, a: Worked) -> Worked
     }
 }
 
-// The union or pairing of what a and b gave, so many packets, with the steps of both and 2, and the room of both and 1.
-fn joined(count: usize, a: Worked, b: Worked) -> Worked
+// The union or pairing of what a and b gave, so many packets, with the steps of both and 2, and the room of both and 1; too wide, where
+// there is no count.
+fn joined(count: Option<usize>, a: Worked, b: Worked) -> Worked
     requires { Small a × Small b }
     ensures { (s : Packets) (v : List ℕ) → Fits places v count s → Joins s v a b result }
 {
-    if MOST < count {
+    let Some(count) = count else {
         return too_wide();
-    }
+    };
     Worked {
         wide: false,
         count,
@@ -565,27 +566,32 @@ pub fn weigh(book: &[u8], packet: &[u16]) -> Passage
 }
 
 // One packet through an accepted book: 8, 12, 9, 10 in this order, or the packets in the result.
-fn evaluate_accepted(book: &[u8], packet: &[u16], res: &mut [u16], z: Sizes) -> Evaluated
-    requires { verdict book.now ≡ Accepted z }
+fn evaluate_accepted(
+    book: &[u8],
+    packet: &[u16],
+    res: &mut [u16],
+    z: Sizes,
+) -> Result<Outcome, Refusal>
+    requires { verdict book.now ≡ Ok z }
     ensures { EvaluateAnswer book.now packet.now res.old result res.new }
 {
     let k = z.fields;
     if packet.len() != k {
-        return Evaluated::NotGiven(rules::no_place(Reason::PacketLength));
+        return Err(Reason::PacketLength.into());
     }
     if res.len() < MOST * k {
-        return Evaluated::NotGiven(rules::no_place(Reason::BufferLength));
+        return Err(Reason::BufferLength.into());
     }
     let fields = sets::all_fields(k);
     let mut set = sets::empty(fields);
     let passage = pass(book, packet, &mut set.values, fields);
     match passage {
-        Passage::Open => Evaluated::NotGiven(rules::no_place(Reason::Unpopulated)),
-        Passage::Wide => Evaluated::NotGiven(rules::no_place(Reason::TooWide)),
+        Passage::Open => Err(Reason::Unpopulated.into()),
+        Passage::Wide => Err(Reason::TooWide.into()),
         Passage::Through(w) => {
             let count = w.count;
             let written = rows::emit_rows(&set.values, count, k, PLACES, res);
-            Evaluated::Given(Outcome {
+            Ok(Outcome {
                 count,
                 steps: w.steps,
                 parts: z.parts,
@@ -597,12 +603,9 @@ fn evaluate_accepted(book: &[u8], packet: &[u16], res: &mut [u16], z: Sizes) -> 
 }
 
 // One packet through a book: why it is turned away, or the count, N, n, D and the room, and the packets in the result.
-pub fn evaluate(book: &[u8], packet: &[u16], res: &mut [u16]) -> Evaluated
+pub fn evaluate(book: &[u8], packet: &[u16], res: &mut [u16]) -> Result<Outcome, Refusal>
     ensures { EvaluateAnswer book.now packet.now res.old result res.new }
 {
-    let v = typing::accept(book);
-    match v {
-        Verdict::Accepted(z) => evaluate_accepted(book, packet, res, z),
-        Verdict::Refused(why) => Evaluated::NotGiven(why),
-    }
+    let sizes = typing::accept(book)?;
+    evaluate_accepted(book, packet, res, sizes)
 }

@@ -1,4 +1,5 @@
 -- The values laid in the caller's words, and the faces' answers.
+use Rattle.std.specs.Prelude.{Err, Ok, Result}
 use Prim.Native.Nat.{ℕ, ◌+◌, ◌≤◌, ◌<◌}
 use mathlib.Core.Path.{◌≡◌, refl, sym, ◌∙◌}
 use mathlib.Core.Bool.{true, false}
@@ -11,16 +12,12 @@ use lib.Dec.{leb}
 use lib.ListN.{length, take, drop, get_or, set}
 use lib.Seq.{length-take-le, length_front, paste-suc}
 use Rattle.rules.specs.declared.Sizes.{Sizes}
-use Rattle.rules.specs.declared.Verdict.{Verdict}
-use Rattle.rules.specs.declared.Verdict.TheVariants.{Accepted, Refused}
 use Rattle.rules.specs.declared.Outcome.{Outcome}
-use Rattle.rules.specs.declared.Evaluated.{Evaluated}
-use Rattle.rules.specs.declared.Evaluated.TheVariants.{Given, NotGiven}
 use Rattle.rules.specs.declared.Finish.{Finish}
 use Rattle.rules.specs.declared.Progress.{Progress}
 use Rattle.rules.specs.declared.Refusal.{Refusal}
 use Rattle.rules.specs.declared.Ran.{Ran}
-use Rattle.rules.specs.declared.Ran.TheVariants.{Finished, Running, NotRun}
+use Rattle.rules.specs.declared.Ran.TheVariants.{Finished, Running}
 use Rattle.rules.specs.Answers.{Says, refusal_says, verdict_says, evaluated_says, ran_says}
 use Rattle.rules.specs.Answers.{overwritten, evaluated, evaluated_result, ran, ran_result, ran_area}
 use Rattle.exports.specs.declared.Face.{Face}
@@ -85,37 +82,37 @@ module _ {book packet schedule result area before : List ℕ} where
 
 -- ---- the faces of the answers, by the case that was met
 
-module _ {v : Verdict} where
-  pub shows_accepted : {z : Sizes} → v ≡ Accepted z
+module _ {v : Result Sizes Refusal} where
+  pub shows_accepted : {z : Sizes} → v ≡ Ok z
       → Shows (record { code = 0; values = z.fields ∷ z.tables ∷ z.parts ∷ z.deep ∷ 0 ∷ []; count = 4 }) (verdict_says v)
   unfolding verdict_says code_of values_of
   shows_accepted e = rw e (record { few = omega arith; code = refl; values = refl })
 
-  pub shows_refused : {f : Face} {r : Refusal} → v ≡ Refused r → Shows f (refusal_says r) → Shows f (verdict_says v)
+  pub shows_refused : {f : Face} {r : Refusal} → v ≡ Err r → Shows f (refusal_says r) → Shows f (verdict_says v)
   unfolding verdict_says
   shows_refused e s = rw e s
 
-module _ {v : Evaluated} where
-  pub shows_given : {o : Outcome} → v ≡ Given o
+module _ {v : Result Outcome Refusal} where
+  pub shows_given : {o : Outcome} → v ≡ Ok o
       → Shows (record { code = 0; values = o.count ∷ o.steps ∷ o.parts ∷ o.deep ∷ o.room ∷ []; count = 5 }) (evaluated_says v)
   unfolding evaluated_says code_of values_of
   shows_given e = rw e (record { few = omega arith; code = refl; values = refl })
 
-  pub shows_not_given : {f : Face} {r : Refusal} → v ≡ NotGiven r → Shows f (refusal_says r) → Shows f (evaluated_says v)
+  pub shows_not_given : {f : Face} {r : Refusal} → v ≡ Err r → Shows f (refusal_says r) → Shows f (evaluated_says v)
   unfolding evaluated_says
   shows_not_given e s = rw e s
 
-module _ {v : Ran} where
-  pub shows_finished : {f : Finish} → v ≡ Finished f
+module _ {v : Result Ran Refusal} where
+  pub shows_finished : {a : Ran} {f : Finish} → v ≡ Ok a → a ≡ Finished f
       → Shows (record { code = 0; values = f.steps ∷ f.count ∷ 0 ∷ 0 ∷ 0 ∷ []; count = 2 }) (ran_says v)
   unfolding ran_says code_of values_of
-  shows_finished e = rw e (record { few = omega arith; code = refl; values = refl })
+  shows_finished e q = rw (e, q) (record { few = omega arith; code = refl; values = refl })
 
-  pub shows_running : {p : Progress} → v ≡ Running p
+  pub shows_running : {a : Ran} {p : Progress} → v ≡ Ok a → a ≡ Running p
       → Shows (record { code = 100; values = p.steps ∷ p.live ∷ p.ready ∷ 0 ∷ 0 ∷ []; count = 3 }) (ran_says v)
   unfolding ran_says code_of values_of
-  shows_running e = rw e (record { few = omega arith; code = refl; values = refl })
+  shows_running e q = rw (e, q) (record { few = omega arith; code = refl; values = refl })
 
-  pub shows_not_run : {f : Face} {r : Refusal} → v ≡ NotRun r → Shows f (refusal_says r) → Shows f (ran_says v)
+  pub shows_not_run : {f : Face} {r : Refusal} → v ≡ Err r → Shows f (refusal_says r) → Shows f (ran_says v)
   unfolding ran_says
   shows_not_run e s = rw e s

@@ -6,7 +6,7 @@ ghost use Rattle.std.specs.Prelude.{◌≡◌, ◌≤◌, length, take};
 ghost use Rattle.rules.specs.Answers.{refusal_says, verdict_says, evaluated_says, ran_says, overwritten};
 ghost use Rattle.exports.specs.Faces.{Shows, AcceptFace, EvaluateFace, RunFace};
 
-use rules::{Evaluated, Ran, Refusal, Verdict};
+use rules::{Outcome, Ran, Refusal, Sizes};
 
 // A code, and as many of the values as count.
 #[derive(Clone, Copy)]
@@ -20,17 +20,17 @@ fn refusal_face(r: Refusal) -> Face
     ensures { Shows result (refusal_says r) }
 {
     Face {
-        code: rules::number_of(r) as u64,
+        code: r.number() as u64,
         values: [r.place as u64, 0, 0, 0, 0],
         count: 1,
     }
 }
 
-fn verdict_face(v: Verdict) -> Face
+fn verdict_face(v: Result<Sizes, Refusal>) -> Face
     ensures { Shows result (verdict_says v) }
 {
     match v {
-        Verdict::Accepted(z) => Face {
+        Ok(z) => Face {
             code: 0,
             values: [
                 z.fields as u64,
@@ -41,15 +41,15 @@ fn verdict_face(v: Verdict) -> Face
             ],
             count: 4,
         },
-        Verdict::Refused(r) => refusal_face(r),
+        Err(r) => refusal_face(r),
     }
 }
 
-fn evaluated_face(e: Evaluated) -> Face
+fn evaluated_face(e: Result<Outcome, Refusal>) -> Face
     ensures { Shows result (evaluated_says e) }
 {
     match e {
-        Evaluated::Given(o) => Face {
+        Ok(o) => Face {
             code: 0,
             values: [
                 o.count as u64,
@@ -60,25 +60,27 @@ fn evaluated_face(e: Evaluated) -> Face
             ],
             count: 5,
         },
-        Evaluated::NotGiven(r) => refusal_face(r),
+        Err(r) => refusal_face(r),
     }
 }
 
-fn ran_face(a: Ran) -> Face
+fn ran_face(a: Result<Ran, Refusal>) -> Face
     ensures { Shows result (ran_says a) }
 {
     match a {
-        Ran::Finished(f) => Face {
-            code: 0,
-            values: [f.steps as u64, f.count as u64, 0, 0, 0],
-            count: 2,
+        Ok(ran) => match ran {
+            Ran::Finished(f) => Face {
+                code: 0,
+                values: [f.steps as u64, f.count as u64, 0, 0, 0],
+                count: 2,
+            },
+            Ran::Running(p) => Face {
+                code: 100,
+                values: [p.steps as u64, p.live as u64, p.ready as u64, 0, 0],
+                count: 3,
+            },
         },
-        Ran::Running(p) => Face {
-            code: 100,
-            values: [p.steps as u64, p.live as u64, p.ready as u64, 0, 0],
-            count: 3,
-        },
-        Ran::NotRun(r) => refusal_face(r),
+        Err(r) => refusal_face(r),
     }
 }
 

@@ -1,4 +1,5 @@
 -- An accepted book is readable, its main policy stands where its body starts, and no run of it is stuck.
+use Rattle.std.specs.Prelude.{Ok}
 use Prim.Native.Nat.{ℕ, zero, suc, ◌+◌, ◌≤◌, ◌<◌}
 use native.Mathlib.Omega.{arith}
 use mathlib.Core.Path.{◌≡◌, refl, sym, ◌∙◌}
@@ -7,7 +8,6 @@ use mathlib.Core.List.{List, [], ◌++◌}
 use mathlib.Core.Option.{some}
 use lib.ListN.{drop}
 use Rattle.rules.specs.declared.Sizes.{Sizes}
-use Rattle.rules.specs.declared.Verdict.TheVariants.{Accepted}
 use Rattle.rules.specs.Parts.{Part, Id, Drop, Test, Set, Not, Sum, Seq, Beside, Table, Open, write, names_open}
 use Rattle.rules.specs.Books.{most_depth, Entry, entries, bytes_of, Scope, scope_of, no_use, Fine, OfBody, OfEach, Bytes}
 use Rattle.rules.specs.Reading.{fields_of, tables_of, body_start, body_at, use_at, main_of, tables_from, policy_of, verdict}
@@ -63,7 +63,7 @@ tables_at s F (suc n) x zero a f l = let e : x + 0 ≡ x = omega arith in rw e (
 tables_at s F (suc n) x (suc i) a f l =
     let e : x + suc i ≡ suc x + i = omega arith in rw e (tables_at s F n (suc x) i a.1 f.1 (omega arith))
 
-module _ (s : List ℕ) (z : Sizes) (v : verdict s ≡ Accepted z) (small : Bytes s) where
+module _ (s : List ℕ) (z : Sizes) (v : verdict s ≡ Ok z) (small : Bytes s) where
   abbrev table : Scope
   table = scope_of (fields_of s) (tables_of s) false
 

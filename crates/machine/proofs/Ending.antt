@@ -1,4 +1,5 @@
 -- The end of a run: the answer is read from the words, and the area is cleared.
+use Rattle.std.specs.Prelude.{Ok}
 use Prim.Native.Nat.{ℕ, ◌-◌, ◌*◌, ◌≤◌, ◌<◌}
 use native.Mathlib.Nat.{suc-mul, mul-le-mul_right}
 use native.Mathlib.Omega.{arith}
@@ -84,7 +85,7 @@ module _ (s w v : List ℕ) (n r k : ℕ) (t : Tree) (bs : List ℕ) (p : Played
 
       pub finished_result : (x f : ℕ) (b : Bool) (o o' : List ℕ) → x ≡ f → 16 * f ≤ length o
           → Emitted b (values_of x (rows_at v 0 count)) o o'
-          → o' ≡ result_run (Finished (record { steps = k; count = count })) (values_of f (final_of (finish T))) o
+          → o' ≡ result_run (Ok (Finished (record { steps = k; count = count }))) (values_of f (final_of (finish T))) o
       unfolding overwritten
       finished_result x f b o o' ex room d =
           let words : List ℕ = values_of f (final T) in

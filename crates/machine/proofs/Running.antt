@@ -1,4 +1,5 @@
 -- The whole answer of a run, test by test, in the order of document 01's numbers.
+use Rattle.std.specs.Prelude.{Err, Ok, Result}
 use Prim.Native.Nat.{ℕ, ◌*◌, ◌≤◌, ◌<◌}
 use native.Mathlib.Omega.{arith}
 use mathlib.Core.Path.{◌≡◌, refl, sym, ap, ◌∙◌}
@@ -7,9 +8,7 @@ use lib.ListN.{length, replicate}
 use Rattle.rules.specs.declared.Reason.TheVariants.{PacketLength, Unpopulated, TooWide, Positions, BufferLength}
 use Rattle.rules.specs.declared.Refusal.{Refusal}
 use Rattle.rules.specs.declared.Sizes.{Sizes}
-use Rattle.rules.specs.declared.Verdict.TheVariants.{Accepted, Refused}
 use Rattle.rules.specs.declared.Ran.{Ran}
-use Rattle.rules.specs.declared.Ran.TheVariants.{NotRun}
 use Rattle.rules.specs.Packets.{Packets}
 use Rattle.rules.specs.Checks.{no_place}
 use Rattle.rules.specs.Reading.{fields_of, body_start, sizes_of, verdict}
@@ -33,28 +32,28 @@ use Rattle.machine.proofs.Fitting.{start_playable}
 use Rattle.machine.proofs.Admitting.{accepted_reads, accepted_stands, accepted_goes}
 
 -- k as an accepted book says it
-pub fields_are : (s : List ℕ) (z : Sizes) → verdict s ≡ Accepted z → (z.fields ≡ fields_of s) × (z.fields ≤ 8)
+pub fields_are : (s : List ℕ) (z : Sizes) → verdict s ≡ Ok z → (z.fields ≡ fields_of s) × (z.fields ≤ 8)
 unfolding sizes_of
 fields_are s z v =
     let e : z.fields ≡ fields_of s = ap (λ (x : Sizes). x.fields) (accepted_sizes s z v) in
     (e, omega (arith, (accepted_fields s z v).1))
 
 module _ (book packet schedule result work : List ℕ) where
-  abbrev answer : Ran
+  abbrev answer : Result Ran Refusal
   answer = ran book packet schedule (length result) (length work)
 
   -- a refusal leaves both buffers as they are
-  turned_away : (why : Refusal) → answer ≡ NotRun why → RunAnswer book packet schedule result work (NotRun why) result work
+  turned_away : (why : Refusal) → answer ≡ Err why → RunAnswer book packet schedule result work (Err why) result work
   turned_away why e =
       let k = not_run_keeps book packet schedule result work why e in
       run_answer (sym e) (sym k.0) (sym k.1)
 
-  pub refused_book : (why : Refusal) → verdict book ≡ Refused why → RunAnswer book packet schedule result work (NotRun why) result work
+  pub refused_book : (why : Refusal) → verdict book ≡ Err why → RunAnswer book packet schedule result work (Err why) result work
   refused_book why e = turned_away why (ran_refused book packet schedule (length result) (length work) why e)
 
-  module _ (z : Sizes) (v : verdict book ≡ Accepted z) where
+  module _ (z : Sizes) (v : verdict book ≡ Ok z) where
     pub refused_packet : (length packet ≡ z.fields → ⊥)
-        → RunAnswer book packet schedule result work (NotRun (no_place PacketLength)) result work
+        → RunAnswer book packet schedule result work (Err (no_place PacketLength)) result work
     refused_packet n =
         turned_away _
         (ran_packet book packet schedule (length result) (length work) z v (λ e. n (e ∙ sym (fields_are book z v).0)))
@@ -67,25 +66,25 @@ module _ (book packet schedule result work : List ℕ) where
       passable = record { accepted = (z, v); words = words }
 
       pub refused_result : length result < 16 * z.fields
-          → RunAnswer book packet schedule result work (NotRun (no_place BufferLength)) result work
+          → RunAnswer book packet schedule result work (Err (no_place BufferLength)) result work
       refused_result l =
           turned_away _
           (ran_result_lem book packet schedule (length result) (length work) z v words (rw (fields_are book z v).0 at l))
 
       pub refused_area : length work < area_words
-          → RunAnswer book packet schedule result work (NotRun (no_place BufferLength)) result work
+          → RunAnswer book packet schedule result work (Err (no_place BufferLength)) result work
       refused_area a = turned_away _ (ran_area_lem book packet schedule (length result) (length work) z v words a)
 
       module _ (l : 16 * z.fields ≤ length result) (a : area_words ≤ length work) (r : Passage) (weighs : Weighs book packet r) where
         fits : 16 * fields_of book ≤ length result
         fits = rw (fields_are book z v).0 at l
 
-        pub refused_open : r ≡ Open → RunAnswer book packet schedule result work (NotRun (no_place Unpopulated)) result work
+        pub refused_open : r ≡ Open → RunAnswer book packet schedule result work (Err (no_place Unpopulated)) result work
         refused_open e =
             turned_away _
             (ran_open book packet schedule (length result) (length work) z v words fits a (weighs_open book packet (rw e at weighs)))
 
-        pub refused_wide : r ≡ Wide → RunAnswer book packet schedule result work (NotRun (no_place TooWide)) result work
+        pub refused_wide : r ≡ Wide → RunAnswer book packet schedule result work (Err (no_place TooWide)) result work
         refused_wide e =
             let w = weighs_wide book packet (rw e at weighs) in
             turned_away _
@@ -107,7 +106,7 @@ module _ (book packet schedule result work : List ℕ) where
     granted = w.granted
 
     pub refused_positions : positions < needs
-        → RunAnswer book packet schedule result work (NotRun (no_place Positions)) result work
+        → RunAnswer book packet schedule result work (Err (no_place Positions)) result work
     refused_positions h =
         turned_away _
         (ran_positions book packet schedule (length result) (length work) w.fits w.wide granted (omega (arith, w.room)))
@@ -122,7 +121,7 @@ module _ (book packet schedule result work : List ℕ) where
           let st = accepted_stands book granted.sizes granted.accepted small granted.populated in
           (b, st, start_playable book packet b st granted.narrow (omega (arith, w.room)))
 
-      answer_is : answer ≡ stop_of book packet schedule
+      answer_is : answer ≡ Ok (stop_of book packet schedule)
       answer_is =
           let admitted : Admitted book packet = record { granted = granted; positions = omega (arith, w.room) } in
           ran_admitted book packet schedule (length result) (length work) w.fits w.wide admitted
@@ -130,16 +129,17 @@ module _ (book packet schedule result work : List ℕ) where
 
       -- the conducted run is the answer
       pub conducted : (r : Ran) (result' work' : List ℕ) → r ≡ stop_of book packet schedule
-          → result' ≡ result_run r (words_of book packet schedule) result → work' ≡ overwritten (replicate area_words 0) work
-          → RunAnswer book packet schedule result work r result' work'
+          → result' ≡ result_run (Ok r) (words_of book packet schedule) result → work' ≡ overwritten (replicate area_words 0) work
+          → RunAnswer book packet schedule result work (Ok r) result' work'
       unfolding ran_result ran_area
       conducted r result' work' er eo ea =
-          let s : r ≡ answer = er ∙ sym answer_is in
-          run_answer s (eo ∙ ap (λ (x : Ran). result_run x (words_of book packet schedule) result) s)
-          (ea ∙ stopped_area (finish (run (start book packet) schedule)) ∙ ap (λ (x : Ran). area_run x work) (sym er ∙ s))
+          let s : Ok r ≡ answer = ap Ok er ∙ sym answer_is in
+          run_answer s (eo ∙ ap (λ (x : Result Ran Refusal). result_run x (words_of book packet schedule) result) s)
+          (ea ∙ stopped_area (finish (run (start book packet) schedule))
+          ∙ ap (λ (x : Result Ran Refusal). area_run x work) (sym answer_is))
         where
           stopped_area : (fs : List Packets)
               → overwritten (replicate area_words 0) work ≡ area_run
-              (stopped (made (start book packet) schedule) (run (start book packet) schedule) fs) work
+              (Ok (stopped (made (start book packet) schedule) (run (start book packet) schedule) fs)) work
           stopped_area [] = refl
           stopped_area (f ∷ fs) = refl

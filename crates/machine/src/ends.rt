@@ -28,7 +28,7 @@ pub fn answer(
     requires policy { Playable book.now (start book.now packet.now) × (16 * fields_of book.now ≤ length res.old) }
     requires ended { Ended book.now work.now c.free c.ready c.steps (start book.now packet.now) schedule.now }
     ensures { (result ≡ stop_of book.now packet.now schedule.now)
-        × (res.new ≡ result_run result
+        × (res.new ≡ result_run (Ok result)
         (words_of book.now packet.now schedule.now) res.old) }
 {
     if c.ready == 0 {

@@ -10,14 +10,14 @@ mod step;
 
 ghost use Rattle.std.specs.Prelude.{◌≡◌};
 ghost use Rattle.rules.specs.Reading.{verdict};
-ghost use Rattle.rules.specs.declared.Verdict.TheVariants.{Accepted};
+ghost use Rattle.std.specs.Prelude.{Ok};
 ghost use Rattle.rules.specs.Promises.{RunAnswer};
 ghost use Rattle.machine.specs.Answered.{Weighed};
 
 use area::{AREA_WORDS, POSITIONS};
 use evaluator::Passage;
 use play::conduct;
-use rules::{Ran, Reason, Sizes, Verdict};
+use rules::{Ran, Reason, Refusal, Sizes};
 
 // The run of a book and a packet that are past 1 to 10, with the room that it needs: 11 is left.
 fn run_weighed(
@@ -27,15 +27,15 @@ fn run_weighed(
     res: &mut [u16],
     work: &mut [u16],
     room: u64,
-) -> Ran
+) -> Result<Ran, Refusal>
     requires { Weighed book.now packet.now res.old work.old room }
     ensures { RunAnswer book.now packet.now schedule.now res.old
         work.old result res.new work.new }
 {
     if room > POSITIONS as u64 {
-        return Ran::NotRun(rules::no_place(Reason::Positions));
+        return Err(Reason::Positions.into());
     }
-    conduct(book, packet, schedule, res, work)
+    Ok(conduct(book, packet, schedule, res, work))
 }
 
 // The run of an accepted book, for a caller that has its sizes: 8, 12, 9, 10 and 11 in this order. Of the evaluator's answer nothing is
@@ -47,37 +47,40 @@ pub fn run_accepted(
     res: &mut [u16],
     work: &mut [u16],
     z: Sizes,
-) -> Ran
-    requires { verdict book.now ≡ Accepted z }
+) -> Result<Ran, Refusal>
+    requires { verdict book.now ≡ Ok z }
     ensures { RunAnswer book.now packet.now schedule.now res.old
         work.old result res.new work.new }
 {
     let k = z.fields;
     if packet.len() != k {
-        return Ran::NotRun(rules::no_place(Reason::PacketLength));
+        return Err(Reason::PacketLength.into());
     }
     if res.len() < 16 * k {
-        return Ran::NotRun(rules::no_place(Reason::BufferLength));
+        return Err(Reason::BufferLength.into());
     }
     if work.len() < AREA_WORDS {
-        return Ran::NotRun(rules::no_place(Reason::BufferLength));
+        return Err(Reason::BufferLength.into());
     }
     let passage = evaluator::weigh(book, packet);
     match passage {
-        Passage::Open => Ran::NotRun(rules::no_place(Reason::Unpopulated)),
-        Passage::Wide => Ran::NotRun(rules::no_place(Reason::TooWide)),
+        Passage::Open => Err(Reason::Unpopulated.into()),
+        Passage::Wide => Err(Reason::TooWide.into()),
         Passage::Through(w) => run_weighed(book, packet, schedule, res, work, w.room),
     }
 }
 
 // A book's bytes, a packet's words and a schedule of choices run in a lent working area: document 01's answer, and both buffers after it.
-pub fn run(book: &[u8], packet: &[u16], schedule: &[u8], res: &mut [u16], work: &mut [u16]) -> Ran
+pub fn run(
+    book: &[u8],
+    packet: &[u16],
+    schedule: &[u8],
+    res: &mut [u16],
+    work: &mut [u16],
+) -> Result<Ran, Refusal>
     ensures { RunAnswer book.now packet.now schedule.now res.old
         work.old result res.new work.new }
 {
-    let v = typing::accept(book);
-    match v {
-        Verdict::Accepted(z) => run_accepted(book, packet, schedule, res, work, z),
-        Verdict::Refused(why) => Ran::NotRun(why),
-    }
+    let sizes = typing::accept(book)?;
+    run_accepted(book, packet, schedule, res, work, sizes)
 }

@@ -90,7 +90,7 @@ pub fn conduct(
         × Playable book.now (start book.now packet.now) }
     requires buffers { (area_words ≤ length work.old) × (length packet.now ≤ 8) × (16 * fields_of book.now ≤ length res.old) }
     ensures { (result ≡ stop_of book.now packet.now schedule.now)
-        × (res.new ≡ result_run result
+        × (res.new ≡ result_run (Ok result)
         (words_of book.now packet.now schedule.now) res.old)
         × (work.new ≡ overwritten (replicate area_words 0) work.old) }
 {

@@ -1,5 +1,7 @@
 -- What is printed follows from the first 12,307 bytes of the input: a length, a book of 4,096 bytes, a packet of 16, and one byte more
 -- than a schedule may have.
+use Rattle.std.specs.Prelude.{Err, Ok, Result}
+use Rattle.rules.specs.declared.Refusal.{Refusal}
 use Prim.Native.Nat.{ℕ, zero, suc, ◌+◌, ◌*◌, ◌≤◌, ◌<◌}
 use native.Mathlib.Omega.{arith}
 use mathlib.Core.Path.{◌≡◌, refl, sym, ap, ◌∙◌}
@@ -11,8 +13,6 @@ use lib.Seq.{take_all, take-take, length-take-le, get_or-take}
 use borrow.Author.Tests.{ltb-true, ltb-false, leb-true, leb-false}
 use Rattle.rules.specs.declared.Reason.TheVariants.{Input}
 use Rattle.rules.specs.declared.Sizes.{Sizes}
-use Rattle.rules.specs.declared.Verdict.{Verdict}
-use Rattle.rules.specs.declared.Verdict.TheVariants.{Accepted, Refused}
 use Rattle.rules.specs.Books.{most_bytes}
 use Rattle.rules.specs.Checks.{no_place}
 use Rattle.rules.specs.Reading.{number_at, fields_of, verdict}
@@ -33,7 +33,7 @@ part_take (suc m) n (suc w) (x ∷ l) h = part_take m n w l (omega arith)
 
 -- with so many bytes and an accepted book, the schedule is too long
 module _ (s : List ℕ) (long : most_input ≤ length s) (few : number_at s 0 ≤ most_bytes) (z : Sizes)
-    (yes : verdict (book_in s) ≡ Accepted z) where
+    (yes : verdict (book_in s) ≡ Ok z) where
   too_many : printed s ≡ refused_line (no_place Input)
   too_many =
       let k = (accepted_fields (book_in s) z yes).1 in
@@ -56,12 +56,12 @@ module _ (l : List ℕ) (long : most_input < length l) where
     cut_book =
         ap (λ (n : ℕ). take n (drop 2 (take most_input l))) cut_number ∙ part_take 2 (number_at l 0) most_input l (omega arith)
 
-    by_verdict : (v : Verdict) → verdict (book_in l) ≡ v → printed (take most_input l) ≡ printed l
-    by_verdict (Refused r) e =
+    by_verdict : (v : Result Sizes Refusal) → verdict (book_in l) ≡ v → printed (take most_input l) ≡ printed l
+    by_verdict (Err r) e =
         printed_refused (take most_input l) (omega (arith, cut_length)) cut_few (omega (arith, cut_length, cut_few)) r
         (ap verdict cut_book ∙ e)
         ∙ sym (printed_refused l (omega arith) few (omega arith) r e)
-    by_verdict (Accepted z) e =
+    by_verdict (Ok z) e =
         too_many (take most_input l) (omega (arith, cut_length)) cut_few z (ap verdict cut_book ∙ e) ∙ sym (too_many l (omega arith) few z e)
 
   by_length : (b : Bool) → ltb most_bytes (number_at l 0) ≡ b → printed (take most_input l) ≡ printed l

@@ -1,5 +1,6 @@
 -- A finished run: its packets stand in the first words of the result, sixteen at most, and the lines made of those words are theirs.
 -- So what is printed of a run follows from the answer and the result that the machine leaves.
+use Rattle.std.specs.Prelude.{Err, Ok, Result}
 use Prim.Native.Nat.{ℕ, ◌*◌, ◌≤◌}
 use native.Mathlib.Omega.{arith}
 use native.Mathlib.Nat.{le_refl}
@@ -13,7 +14,7 @@ use Rattle.rules.specs.declared.Refusal.{Refusal}
 use Rattle.rules.specs.declared.Finish.{Finish}
 use Rattle.rules.specs.declared.Progress.{Progress}
 use Rattle.rules.specs.declared.Ran.{Ran}
-use Rattle.rules.specs.declared.Ran.TheVariants.{Finished, Running, NotRun}
+use Rattle.rules.specs.declared.Ran.TheVariants.{Finished, Running}
 use Rattle.rules.specs.Packets.{Packet, Packets, most_packets, ◌∈◌, values_of}
 use Rattle.rules.specs.Reading.{fields_of, main_of}
 use Rattle.rules.specs.States.{finish, run, made}
@@ -55,7 +56,7 @@ lines_values {k} rest (also {x} {xs} e h) =
 -- ---- a run that finished was admitted, and ended with the packets that the policy gives
 
 module _ (book packet schedule result : List ℕ) (area : ℕ) (f : Finish)
-    (ended : ran book packet schedule (length result) area ≡ Finished f) where
+    (ended : ran book packet schedule (length result) area ≡ Ok (Finished f)) where
   was : Admitted book packet × (stop_of book packet schedule ≡ Finished f)
   was = finished_was book packet schedule (length result) area f ended
 
@@ -99,7 +100,7 @@ module _ (book packet schedule result : List ℕ) (area : ℕ) (f : Finish)
     same_lines =
         rw (words, ended_with.1, ended_with.0) (lines_values (drop (length (values_of (fields_of book) (given book packet))) result) rows)
 
-    finished_lines_lem : ran_lines (fields_of book) (final_of (finish (run (start book packet) schedule))) (Finished f)
+    finished_lines_lem : ran_lines (fields_of book) (final_of (finish (run (start book packet) schedule))) (Ok (Finished f))
         ≡ finished_lines (fields_of book) f (ran_result book packet schedule result area)
     unfolding ran_lines finished_lines
     finished_lines_lem = rw same_lines
@@ -114,7 +115,7 @@ ran_alike book packet schedule words more h k =
     rw (le-leb (most_packets * fields_of book) words h, le-leb (most_packets * fields_of book) more k)
 
 -- k fields, and a buffer for as many as there can be
-module _ (book packet schedule : List ℕ) (words area k : ℕ) (a : Ran) (fields : k ≡ fields_of book) (eight : k ≤ 8)
+module _ (book packet schedule : List ℕ) (words area k : ℕ) (a : Result Ran Refusal) (fields : k ≡ fields_of book) (eight : k ≤ 8)
     (long : words ≡ 128) (wide : area ≡ area_words) (answer : a ≡ ran book packet schedule words area) where
   fits : most_packets * fields_of book ≤ words
   fits = omega arith
@@ -123,18 +124,18 @@ module _ (book packet schedule : List ℕ) (words area k : ℕ) (a : Ran) (field
   unfolding ran_text
   text_ran = rw (ran_alike book packet schedule (most_packets * fields_of book) words (le_refl _) fits, answer, wide)
 
-  pub text_refused : (r : Refusal) → a ≡ NotRun r → ran_text book packet schedule ≡ refused_line r
+  pub text_refused : (r : Refusal) → a ≡ Err r → ran_text book packet schedule ≡ refused_line r
   unfolding ran_lines
   text_refused r e = text_ran ∙ rw e
 
-  pub text_running : (p : Progress) → a ≡ Running p → ran_text book packet schedule ≡ running_line p
+  pub text_running : (p : Progress) → a ≡ Ok (Running p) → ran_text book packet schedule ≡ running_line p
   unfolding ran_lines running_line
   text_running p e = text_ran ∙ rw e
 
   -- a result of so many words, before and after the run
-  module _ (f : Finish) (ends : a ≡ Finished f) (bytes : Bytes book) (result after : List ℕ) (size : length result ≡ words)
+  module _ (f : Finish) (ends : a ≡ Ok (Finished f)) (bytes : Bytes book) (result after : List ℕ) (size : length result ≡ words)
       (left : after ≡ ran_result book packet schedule result area) where
-    ended : ran book packet schedule (length result) area ≡ Finished f
+    ended : ran book packet schedule (length result) area ≡ Ok (Finished f)
     ended = rw size (sym answer ∙ ends)
 
     pub finished_asks : (k ≤ 8) × (f.count ≤ 16) × (f.count * k ≤ length after)

@@ -1,4 +1,6 @@
 -- The input's parts: its words, one after the other, and each part of document 01's order as the program takes it.
+use Rattle.std.specs.Prelude.{Ok, Result}
+use Rattle.rules.specs.declared.Refusal.{Refusal}
 use Prim.Native.Nat.{ℕ, zero, suc, ◌+◌, ◌*◌, ◌-◌, ◌≤◌, ◌<◌}
 use native.Mathlib.Omega.{arith}
 use native.Mathlib.Nat.{add-sub_cancel_left}
@@ -8,8 +10,6 @@ use lib.ListN.{length, take, drop, length-drop}
 use lib.Seq.{get_or-drop, take_all}
 use Rattle.rules.specs.declared.Reason.TheVariants.{PacketLength, Input}
 use Rattle.rules.specs.declared.Sizes.{Sizes}
-use Rattle.rules.specs.declared.Verdict.{Verdict}
-use Rattle.rules.specs.declared.Verdict.TheVariants.{Accepted}
 use Rattle.rules.specs.Books.{most_bytes}
 use Rattle.rules.specs.Checks.{no_place}
 use Rattle.rules.specs.Reading.{number_at, fields_of, sizes_of, verdict}
@@ -43,12 +43,12 @@ book_part : (input : List ℕ) (n : ℕ) → n ≡ number_at input 0 → take (2
 book_part input n e = rw (add-sub_cancel_left 2 n, e)
 
 -- the verdict on the book's part, and on the book
-pub book_judged : (input : List ℕ) (n : ℕ) {r v : Verdict} → n ≡ number_at input 0 → r ≡ verdict (take (2 + n - 2) (drop 2 input)) → r ≡ v
+pub book_judged : (input : List ℕ) (n : ℕ) {r v : Result Sizes Refusal} → n ≡ number_at input 0 → r ≡ verdict (take (2 + n - 2) (drop 2 input)) → r ≡ v
     → verdict (book_in input) ≡ v
 book_judged input n e j k = ap verdict (sym (book_part input n e)) ∙ sym j ∙ k
 
 pub accepts : (input : List ℕ) (n : ℕ) (z : Sizes) → n ≡ number_at input 0 → n ≤ most_bytes → 2 + n ≤ length input
-    → verdict (book_in input) ≡ Accepted z → Accepts input n z
+    → verdict (book_in input) ≡ Ok z → Accepts input n z
 unfolding sizes_of
 accepts input n z e few whole ok =
     let fields : z.fields ≡ fields_of (book_in input) = ap (λ (y : Sizes). y.fields) (accepted_sizes (book_in input) z ok) in
@@ -78,7 +78,7 @@ module _ (input : List ℕ) (n : ℕ) (z : Sizes) (a : Accepts input n z) where
   pub book_fields : k ≡ fields_of (take (2 + n - 2) (drop 2 input))
   book_fields = a.fields ∙ ap fields_of (sym (book_part input n a.number))
 
-  pub book_accepted : verdict (take (2 + n - 2) (drop 2 input)) ≡ Accepted z
+  pub book_accepted : verdict (take (2 + n - 2) (drop 2 input)) ≡ Ok z
   book_accepted = ap verdict (book_part input n a.number) ∙ a.accepted
 
   -- the ways that are left, on these parts

@@ -1,4 +1,5 @@
 -- What is printed, one law for each way that document 01's order leads to.
+use Rattle.std.specs.Prelude.{Err, Ok}
 use Prim.Native.Nat.{ℕ, ◌+◌, ◌*◌, ◌≤◌, ◌<◌}
 use mathlib.Core.Path.{◌≡◌, ◌∙◌}
 use mathlib.Core.List.{List, [], ◌∷◌, ◌++◌}
@@ -8,7 +9,6 @@ use borrow.Author.Tests.{le-leb, lt-leb}
 use Rattle.rules.specs.declared.Reason.TheVariants.{BookLength, PacketLength, Input}
 use Rattle.rules.specs.declared.Refusal.{Refusal}
 use Rattle.rules.specs.declared.Sizes.{Sizes}
-use Rattle.rules.specs.declared.Verdict.TheVariants.{Accepted, Refused}
 use Rattle.rules.specs.Books.{most_bytes}
 use Rattle.rules.specs.Checks.{no_place, Check, check, first_failed}
 use Rattle.rules.specs.Reading.{number_at, fields_of, book_checks, verdict}
@@ -46,12 +46,12 @@ module _ (input : List ℕ) where
         front_holds =
             le-leb 2 (length input) two & le-leb (number_at input 0) most_bytes few & le-leb (2 + number_at input 0) (length input) whole & end
 
-        pub printed_refused : (r : Refusal) → verdict (book_in input) ≡ Refused r → printed input ≡ refused_line r
+        pub printed_refused : (r : Refusal) → verdict (book_in input) ≡ Err r → printed input ≡ refused_line r
         unfolding printed print_checks
         printed_refused r e =
             rw (group_failed front (book_checks (book_in input)) _ r front_holds (refused_checks (book_in input) r e))
 
-        module _ (z : Sizes) (yes : verdict (book_in input) ≡ Accepted z) where
+        module _ (z : Sizes) (yes : verdict (book_in input) ≡ Ok z) where
           -- past the book's own
           last : printed input
               ≡ printed_by (first_failed (check (leb (2 * fields_of (book_in input)) (length (after_book input))) PacketLength

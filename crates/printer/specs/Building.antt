@@ -1,10 +1,9 @@
 -- The text that the program builds: what it holds, what a function that goes on with it asks and gives, and the lines as they
 -- are built from what the program has at hand.
-use Rattle.std.specs.Prelude.{ℕ, zero, suc, ◌+◌, ◌*◌, ◌-◌, ◌≤◌, ◌≡◌, List, [], ◌++◌, length, take, drop, replicate}
+use Rattle.std.specs.Prelude.{ℕ, zero, suc, ◌+◌, ◌*◌, ◌-◌, ◌≤◌, ◌≡◌, List, [], ◌++◌, length, take, drop, replicate, Ok}
 use Rattle.rules.specs.declared.Finish.{Finish}
 use Rattle.rules.specs.declared.Progress.{Progress}
 use Rattle.rules.specs.declared.Sizes.{Sizes}
-use Rattle.rules.specs.declared.Verdict.TheVariants.{Accepted}
 use Rattle.rules.specs.Packets.{most_packets}
 use Rattle.rules.specs.Books.{most_bytes}
 use Rattle.rules.specs.Reading.{number_at, fields_of, verdict}
@@ -64,7 +63,7 @@ pub record Accepts (input : List ℕ) (n : ℕ) (z : Sizes) : Type 0 where
   pub number : n ≡ number_at input 0
   pub few : n ≤ most_bytes
   pub whole : 2 + n ≤ length input
-  pub accepted : verdict (book_in input) ≡ Accepted z
+  pub accepted : verdict (book_in input) ≡ Ok z
   pub fields : z.fields ≡ fields_of (book_in input)
   pub eight : z.fields ≤ 8
 

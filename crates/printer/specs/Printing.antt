@@ -1,10 +1,10 @@
 -- What the run printer writes for any input (document 01, "The run printer").
-use Rattle.std.specs.Prelude.{ℕ, zero, suc, ◌+◌, ◌*◌, ◌/◌, ◌%◌, cond, List, [], ◌∷◌, ◌++◌, ltb, leb, length, take, drop}
+use Rattle.std.specs.Prelude.{ℕ, zero, suc, ◌+◌, ◌*◌, ◌/◌, ◌%◌, cond, List, [], ◌∷◌, ◌++◌, ltb, leb, length, take, drop, Err, Ok, Result}
 use Rattle.std.proofs.Math.Option.{Option, none, some}
 use Rattle.rules.specs.declared.Reason.TheVariants.{BookLength, PacketLength, Input}
 use Rattle.rules.specs.declared.Refusal.{Refusal}
 use Rattle.rules.specs.declared.Ran.{Ran}
-use Rattle.rules.specs.declared.Ran.TheVariants.{Finished, Running, NotRun}
+use Rattle.rules.specs.declared.Ran.TheVariants.{Finished, Running}
 use Rattle.rules.specs.Packets.{Packets, most_packets}
 use Rattle.rules.specs.Books.{most_bytes}
 use Rattle.rules.specs.Checks.{number_of, Check, check, first_failed}
@@ -81,13 +81,13 @@ unfoldable pub refused_line : Refusal → List ℕ
 refused_line r = refused_word ++ (blank_then (number_of r) ++ (blank_then r.place ++ line_end))
 
 -- k is the number of fields, and s the packets of a finished run
-unfoldable pub ran_lines : ℕ → Packets → Ran → List ℕ
-ran_lines k s (Finished f) = finished_word ++ (blank_then f.steps ++ (blank_then f.count ++ (line_end ++ packet_lines k s)))
-ran_lines k s (Running p) = running_word ++ (blank_then p.steps ++ (blank_then p.live ++ (blank_then p.ready ++ line_end)))
-ran_lines k s (NotRun r) = refused_line r
+unfoldable pub ran_lines : ℕ → Packets → Result Ran Refusal → List ℕ
+ran_lines k s (Ok (Finished f)) = finished_word ++ (blank_then f.steps ++ (blank_then f.count ++ (line_end ++ packet_lines k s)))
+ran_lines k s (Ok (Running p)) = running_word ++ (blank_then p.steps ++ (blank_then p.live ++ (blank_then p.ready ++ line_end)))
+ran_lines k s (Err r) = refused_line r
 
 -- the run of the book and the packet in the input, and the packets that it ends with
-unfoldable pub ran_in : List ℕ → Ran
+unfoldable pub ran_in : List ℕ → Result Ran Refusal
 ran_in input =
     ran (book_in input) (packet_in input) (schedule_in input) (most_packets * fields_of (book_in input)) area_words
 

@@ -19,8 +19,7 @@ fn opening(word: &[u8], a: usize, b: usize) -> Text
 pub fn refused(r: Refusal) -> Text
     ensures { Holds result (refused_line r) }
 {
-    let number = rules::number_of(r);
-    add_byte(opening(b"refused", number, r.place), b'\n')
+    add_byte(opening(b"refused", r.number(), r.place), b'\n')
 }
 
 // running STEPS LIVE READY

@@ -5,13 +5,13 @@ mod lines;
 mod text;
 
 ghost use Rattle.std.specs.Prelude.{◌*◌, ◌≤◌, ◌≡◌, IfOk, length, take};
-ghost use Rattle.rules.specs.declared.Verdict.TheVariants.{Accepted};
+ghost use Rattle.std.specs.Prelude.{Ok};
 ghost use Rattle.rules.specs.Reading.{fields_of, verdict};
 ghost use Rattle.printer.specs.Printing.{words_in, printed};
 ghost use Rattle.printer.specs.Building.{IsPrefixLen, Holds, Accepts, ran_text, text, text_of};
 
 use lines::{finished, refused, running};
-use rules::{Ran, Reason, Sizes, Verdict};
+use rules::{Ran, Reason, Sizes};
 use std::io;
 use std::io::{Read, Write};
 use text::Text;
@@ -37,15 +37,15 @@ fn packet_of(s: &[u8], k: usize) -> [u16; 8]
 
 // The answer of the machine, with a result and a working area of its own.
 fn print_machine(book: &[u8], packet: &[u16], schedule: &[u8], z: Sizes) -> Text
-    requires { (z.fields ≡ fields_of book.now) × (z.fields ≤ 8) × (verdict book.now ≡ Accepted z) }
+    requires { (z.fields ≡ fields_of book.now) × (z.fields ≤ 8) × (verdict book.now ≡ Ok z) }
     ensures { Holds result (ran_text book.now packet.now schedule.now) }
 {
     let mut result = [0u16; 128];
     let mut work = [0u16; 21760];
     match machine::run_accepted(book, packet, schedule, &mut result, &mut work, z) {
-        Ran::Finished(f) => finished(f, z.fields, &result),
-        Ran::Running(p) => running(p),
-        Ran::NotRun(r) => refused(r),
+        Ok(Ran::Finished(f)) => finished(f, z.fields, &result),
+        Ok(Ran::Running(p)) => running(p),
+        Err(r) => refused(r),
     }
 }
 
@@ -59,11 +59,11 @@ fn print_accepted(input: &[u8], n: usize, z: Sizes) -> Text
     let k = z.fields;
     let bytes = 2 * k;
     if rest.len() < bytes {
-        return refused(rules::no_place(Reason::PacketLength));
+        return refused(Reason::PacketLength.into());
     }
     let schedule = &rest[bytes..];
     if MOST_CHOICES < schedule.len() {
-        return refused(rules::no_place(Reason::Input));
+        return refused(Reason::Input.into());
     }
     let packet = packet_of(rest, k);
     print_machine(&input[2..from], &packet[..k], schedule, z)
@@ -75,19 +75,19 @@ pub fn print_run(input: &[u8]) -> Text
     ensures in_bounds { IsPrefixLen result.len result.bytes }
 {
     if input.len() < 2 {
-        return refused(rules::no_place(Reason::Input));
+        return refused(Reason::Input.into());
     }
     let n = book::number_at(input, 0) as usize;
     if MOST_BYTES < n {
-        return refused(rules::no_place(Reason::BookLength));
+        return refused(Reason::BookLength.into());
     }
     let from = 2 + n;
     if input.len() < from {
-        return refused(rules::no_place(Reason::Input));
+        return refused(Reason::Input.into());
     }
     match typing::accept(&input[2..from]) {
-        Verdict::Refused(r) => refused(r),
-        Verdict::Accepted(z) => print_accepted(input, n, z),
+        Err(r) => refused(r),
+        Ok(z) => print_accepted(input, n, z),
     }
 }
 

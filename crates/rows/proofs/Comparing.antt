@@ -1,4 +1,6 @@
 -- Two rows compared value by value, where they stand in two arrays: one turn of the loop.
+use Rattle.std.specs.declared.cmp.Ordering.{Ordering}
+use Rattle.std.specs.declared.cmp.Ordering.TheVariants.{Less, Equal, Greater}
 use Prim.Native.Nat.{ℕ, zero, suc, ◌+◌, ◌%◌, ◌≤◌, ◌<◌}
 use mathlib.Core.Path.{◌≡◌, refl, sym, ap, ap₂, ◌∙◌}
 use mathlib.Core.Bool.{Bool, true, false}
@@ -11,8 +13,6 @@ use borrow.Author.Tests.{lt-ltb, le-ltb}
 use lib.Dec.{ltb}
 use lib.ListN.{length, take, drop, get_or, length-take, length-drop, drop_of_length-le, take-append-drop}
 use lib.Seq.{drop-cons, get_or-take, get_or-drop, take-add, take-take, take-nil, drop-drop}
-use Rattle.rules.specs.declared.Order.{Order}
-use Rattle.rules.specs.declared.Order.TheVariants.{Less, Same, More}
 use Rattle.rules.specs.Packets.{order_by, order_of}
 
 -- value f of the r that start at b
@@ -34,7 +34,7 @@ module _ (p q : List ℕ) (a b r f : ℕ) (hp : a + r ≤ length p) (hq : b + r 
   order_less h l = by_value h ∙ rw (lt-ltb _ _ l)
 
   pub order_more : f < r → get_or q (b + f) 0 ≤ get_or p (a + f) 0 → (get_or p (a + f) 0 ≡ get_or q (b + f) 0 → ⊥)
-      → order_of (drop f (take r (drop a p))) (drop f (take r (drop b q))) ≡ More
+      → order_of (drop f (take r (drop a p))) (drop f (take r (drop b q))) ≡ Greater
   order_more h l n = by_value h ∙ rw (le-ltb _ _ l, lt-ltb _ _ (lt_of_le-ne l (λ e. n (sym e))))
 
   pub order_on_lem : f < r → get_or p (a + f) 0 ≡ get_or q (b + f) 0
@@ -42,7 +42,7 @@ module _ (p q : List ℕ) (a b r f : ℕ) (hp : a + r ≤ length p) (hq : b + r 
       ≡ order_of (drop (f + 1) (take r (drop a p))) (drop (f + 1) (take r (drop b q)))
   order_on_lem h e = by_value h ∙ rw (e, le-ltb _ _ (le_refl _))
 
-  pub order_end : r ≤ f → order_of (drop f (take r (drop a p))) (drop f (take r (drop b q))) ≡ Same
+  pub order_end : r ≤ f → order_of (drop f (take r (drop a p))) (drop f (take r (drop b q))) ≡ Equal
   unfolding order_of
   order_end h =
       let kp : length (take r (drop a p)) ≤ f = simp (length-take, length-drop) (omega arith) in
@@ -51,12 +51,12 @@ module _ (p q : List ℕ) (a b r f : ℕ) (hp : a + r ≤ length p) (hq : b + r 
 
 -- ---- four values at a time
 
-abbrev order_then : Order → Order → Order
+abbrev order_then : Ordering → Ordering → Ordering
 order_then Less o = Less
-order_then Same o = o
-order_then More o = More
+order_then Equal o = o
+order_then Greater o = Greater
 
-then_by : (b c : Bool) (o u : Order) → order_by b c (order_then o u) ≡ order_then (order_by b c o) u
+then_by : (b c : Bool) (o u : Ordering) → order_by b c (order_then o u) ≡ order_then (order_by b c o) u
 then_by true c o u = refl
 then_by false true o u = refl
 then_by false false o u = refl
@@ -67,7 +67,7 @@ order_append [] [] s t e = refl
 order_append [] (y ∷ q) s t e = absurd (omega arith)
 order_append (x ∷ p) [] s t e = absurd (omega arith)
 order_append (x ∷ p) (y ∷ q) s t e =
-    ap (λ (o : Order). order_by (ltb x y) (ltb y x) o) (order_append p q s t (omega arith))
+    ap (λ (o : Ordering). order_by (ltb x y) (ltb y x) o) (order_append p q s t (omega arith))
     ∙ then_by (ltb x y) (ltb y x) (order_of p q) (order_of s t)
 
 cut : (x : List ℕ) (h n : ℕ) → drop h (take h x ++ take n (drop h x)) ≡ take n (drop h x)
@@ -100,11 +100,11 @@ module _ (p q : List ℕ) (a b r f : ℕ) (h : f + 4 ≤ r) (hp : a + r ≤ leng
       → order_of (drop f (take r (drop a p))) (drop f (take r (drop b q))) ≡ Less
   four_less o = by_four ∙ rw o
 
-  pub four_more : order_of (take 4 (drop (a + f) p)) (take 4 (drop (b + f) q)) ≡ More
-      → order_of (drop f (take r (drop a p))) (drop f (take r (drop b q))) ≡ More
+  pub four_more : order_of (take 4 (drop (a + f) p)) (take 4 (drop (b + f) q)) ≡ Greater
+      → order_of (drop f (take r (drop a p))) (drop f (take r (drop b q))) ≡ Greater
   four_more o = by_four ∙ rw o
 
-  pub four_same : order_of (take 4 (drop (a + f) p)) (take 4 (drop (b + f) q)) ≡ Same
+  pub four_same : order_of (take 4 (drop (a + f) p)) (take 4 (drop (b + f) q)) ≡ Equal
       → order_of (drop f (take r (drop a p))) (drop f (take r (drop b q)))
       ≡ order_of (drop (f + 4) (take r (drop a p))) (drop (f + 4) (take r (drop b q)))
   four_same o = by_four ∙ rw o

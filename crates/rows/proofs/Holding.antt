@@ -4,9 +4,9 @@ use mathlib.Core.Path.{◌≡◌, refl, sym, ap, ◌∙◌}
 use mathlib.Core.List.{List, [], ◌∷◌, ◌++◌}
 use native.Mathlib.Omega.{arith}
 use native.Mathlib.Numerals.{add-one}
-use native.Mathlib.Decide.{dec_lt}
 use lib.ListN.{length, take, drop, get_or, set, replicate, length-replicate}
 use lib.Seq.{drop-cons, set_at, take_at, drop_at, take-suc, append_snoc, length-take-le}
+use Rattle.std.specs.Prelude.{Option, Some, None}
 use Rattle.rules.specs.Packets.{Packet, Packets, Ascending}
 use Rattle.rows.specs.Chunks.{rows_of, blank, Array, Packed, Held, Fits, Stored, Copied}
 use Rattle.rows.proofs.Chunks.{length_rows_lem, chunks_zeros, drop_replicate}
@@ -30,19 +30,10 @@ held_few k = omega (arith, held_count k, k.packed.room)
 
 -- ---- the answer of a function that may find too many
 
-pub fits_held : {r : ℕ} {v : List ℕ} {n : ℕ} {s : Packets} → Held r v n s → Fits r v n s
-fits_held k = record { held = λ _. k; over = λ h. absurd (omega (arith, held_few k)) }
-
-pub fits_over : {r : ℕ} {v : List ℕ} {s : Packets} → Held r v 0 [] → 16 < length s → Fits r v 17 s
-fits_over k h = record { held = λ l. absurd (omega arith); over = λ _. (refl, k) }
-
-module _ {r : ℕ} {v : List ℕ} {n : ℕ} {s : Packets} (f : Fits r v n s) where
-  pub fits_few : n ≤ 16 → length s ≤ 16
-  fits_few h = elim (dec_lt 16 (length s)) [ yes l ↦ absurd (omega (arith, (f.over l).0)) | no l ↦ omega arith ]
-
-  pub fits_many : 16 < n → 16 < length s
-  fits_many h =
-      elim (dec_lt 16 (length s)) [ yes l ↦ l | no l ↦ absurd (let k = f.held (omega arith) in omega (arith, k.packed.room)) ]
+-- there is a count, where they are 16 or fewer
+pub fits_some : (r : ℕ) (v : List ℕ) (o : Option ℕ) (s : Packets) → Fits r v o s → length s ≤ 16 → (n : ℕ) × (o ≡ Some n)
+fits_some r v (Some n) s f h = (n, refl)
+fits_some r v None s f h = absurd (omega (arith, f.0))
 
 -- ---- the array of zeros
 

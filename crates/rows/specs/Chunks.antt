@@ -1,5 +1,5 @@
 -- An array of sixteen rows, r values each, as the list of its rows. Only this file and `Arrays` name a place of an array.
-use Rattle.std.specs.Prelude.{ℕ, zero, suc, ◌*◌, ◌-◌, ◌%◌, ◌≤◌, ◌<◌, ◌≡◌, List, [], ◌∷◌, ◌++◌, length, take, drop, set, replicate}
+use Rattle.std.specs.Prelude.{ℕ, zero, suc, ◌*◌, ◌-◌, ◌%◌, ◌≤◌, ◌<◌, ◌≡◌, List, [], ◌∷◌, ◌++◌, length, take, drop, set, replicate, Option, Some, None}
 use Rattle.rules.specs.Packets.{Packet, Packets, most_packets, Ascending}
 
 -- the first n rows of r values
@@ -38,14 +38,10 @@ pub record Held (r : ℕ) (v : List ℕ) (n : ℕ) (s : Packets) : Type 0 where
   pub packed : Packed r v n
   pub same : take n (rows_of r v) ≡ s
 
--- the count that says that packets are more than 16
-abbrev pub too_many : ℕ
-too_many = suc most_packets
-
--- v is the array of the n packets s, or empty and n is 17, where they are more than 16
-pub record Fits (r : ℕ) (v : List ℕ) (n : ℕ) (s : Packets) : Type 0 where
-  pub held : length s ≤ most_packets → Held r v n s
-  pub over : most_packets < length s → (n ≡ too_many) × Held r v 0 []
+-- v is the array of the packets s, so many; or, where they are more than 16, there is no count, and v is empty
+abbrev pub Fits : ℕ → List ℕ → Option ℕ → Packets → Type 0
+Fits r v (Some n) s = Held r v n s
+Fits r v None s = (most_packets < length s) × Held r v 0 []
 
 -- w is the array of w₀ with x for row k
 pub record Stored (r : ℕ) (w w₀ : List ℕ) (k : ℕ) (x : Packet) : Type 0 where

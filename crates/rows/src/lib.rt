@@ -9,7 +9,7 @@ ghost use Rattle.rules.specs.Masks.{has};
 ghost use Rattle.rows.specs.Chunks.{rows_of, widest, Array, Stored, Copied, Cleared};
 ghost use Rattle.rows.specs.Arrays.{eight_at, stored_at, zeroed, mixed_by, Lifted, Emitted};
 
-use rules::Order;
+use std::cmp::Ordering;
 
 // The most packets of a set, which are the rows of an array, and the most values of a row.
 pub const MOST: usize = 16;
@@ -167,7 +167,7 @@ pub fn clear_rows(v: &mut [u16], k: usize, n: usize, r: usize)
 }
 
 // How the four values of p at a lie to those of q at b: field 0 first, then field 1, and so on.
-fn order4(p: &[u16], a: usize, q: &[u16], b: usize) -> Order
+fn order4(p: &[u16], a: usize, q: &[u16], b: usize) -> Ordering
     requires { (a + 4 ≤ length p.now) × (b + 4 ≤ length q.now) }
     ensures { result ≡ order_of (take 4 (drop a p.now)) (take 4 (drop b q.now)) }
 {
@@ -177,17 +177,17 @@ fn order4(p: &[u16], a: usize, q: &[u16], b: usize) -> Order
         let y = q[b + f];
         if x != y {
             if x < y {
-                return Order::Less;
+                return Ordering::Less;
             }
-            return Order::More;
+            return Ordering::Greater;
         }
         f += 1;
     }
-    Order::Same
+    Ordering::Equal
 }
 
 // The same of r values, four at a time.
-fn order_at(p: &[u16], a: usize, q: &[u16], b: usize, r: usize) -> Order
+fn order_at(p: &[u16], a: usize, q: &[u16], b: usize, r: usize) -> Ordering
     requires { (r % 4 ≡ 0) × (a + r ≤ length p.now) × (b + r ≤ length q.now) }
     ensures { result ≡ order_of (take r (drop a p.now)) (take r (drop b q.now)) }
 {
@@ -195,16 +195,16 @@ fn order_at(p: &[u16], a: usize, q: &[u16], b: usize, r: usize) -> Order
     while f < r {
         let o = order4(p, a + f, q, b + f);
         match o {
-            Order::Less => return Order::Less,
-            Order::More => return Order::More,
-            Order::Same => f += 4,
+            Ordering::Less => return Ordering::Less,
+            Ordering::Greater => return Ordering::Greater,
+            Ordering::Equal => f += 4,
         }
     }
-    Order::Same
+    Ordering::Equal
 }
 
 // How row i of v lies to row j of w.
-pub fn order_rows(v: &[u16], i: usize, w: &[u16], j: usize, r: usize) -> Order
+pub fn order_rows(v: &[u16], i: usize, w: &[u16], j: usize, r: usize) -> Ordering
     requires { (i < most_packets) × (j < most_packets) × Array r v.now × Array r w.now }
     ensures { result ≡ order_of (get_or (rows_of r v.now) i []) (get_or (rows_of r w.now) j []) }
 {
@@ -212,7 +212,7 @@ pub fn order_rows(v: &[u16], i: usize, w: &[u16], j: usize, r: usize) -> Order
 }
 
 // How a row by itself lies to row j.
-pub fn order_row(p: &[u16], w: &[u16], j: usize, r: usize) -> Order
+pub fn order_row(p: &[u16], w: &[u16], j: usize, r: usize) -> Ordering
     requires { (j < most_packets) × (r ≤ length p.now) × Array r w.now }
     ensures { result ≡ order_of (take r p.now) (get_or (rows_of r w.now) j []) }
 {

@@ -1,5 +1,6 @@
 -- A book is accepted exactly when it meets document 01's layout, limits and typing: some policy that is a `Book`, written (`exactly`);
 -- the policy is the only one (`unique`), and it is the one that the bytes decode to (`accepted`).
+use Rattle.std.specs.Prelude.{Err, Ok, Result, ℕ}
 use Prim.Native.Nat.{ℕ, suc, ◌≤◌}
 use native.Mathlib.Omega.{arith}
 use mathlib.Core.Path.{◌≡◌, refl, sym, ap, ◌∙◌}
@@ -9,11 +10,8 @@ use mathlib.Core.List.{List, [], ◌∷◌}
 use mathlib.Core.Option.{Option, none, some}
 use lib.ListN.{length}
 use borrow.Author.Tests.{leb-true, le-leb, eqb-true, eq-eqb}
-use Rattle.rules.specs.declared.Reading.{Reading}
-use Rattle.rules.specs.declared.Reading.TheVariants.{Next, Wrong}
 use Rattle.rules.specs.declared.Refusal.{Refusal}
 use Rattle.rules.specs.declared.Sizes.{Sizes}
-use Rattle.rules.specs.declared.Verdict.TheVariants.{Accepted, Refused}
 use Rattle.rules.specs.Parts.{parts, deep}
 use Rattle.rules.specs.Books.{most_fields, most_tables, most_bytes, most_parts, most_beside, Policy, write_book, WellFormed, Book, Bytes}
 use Rattle.rules.specs.Checks.{first_failed}
@@ -25,29 +23,29 @@ use Rattle.rules.proofs.Faults.{faults}
 
 -- ---- the verdict and its checks
 
-by_checks : (o : Option Refusal) (y z : Sizes) → verdict_by o y ≡ Accepted z → (o ≡ none) × (z ≡ y)
+by_checks : (o : Option Refusal) (y z : Sizes) → verdict_by o y ≡ Ok z → (o ≡ none) × (z ≡ y)
 by_checks none y z e = (refl, (let q : y ≡ z = cc in sym q))
 by_checks (some r) y z e = let n : ◌≡◌ {A = ℕ} 0 1 = cc in absurd (omega arith)
 
-by_refusal : (o : Option Refusal) (y : Sizes) (r : Refusal) → verdict_by o y ≡ Refused r → o ≡ some r
+by_refusal : (o : Option Refusal) (y : Sizes) (r : Refusal) → verdict_by o y ≡ Err r → o ≡ some r
 by_refusal none y r e = let n : ◌≡◌ {A = ℕ} 0 1 = cc in absurd (omega arith)
 by_refusal (some q) y r e = let same : q ≡ r = cc in rw same
 
 module _ (s : List ℕ) where
-  pub accepted_checks : (z : Sizes) → verdict s ≡ Accepted z → first_failed (book_checks s) ≡ none
+  pub accepted_checks : (z : Sizes) → verdict s ≡ Ok z → first_failed (book_checks s) ≡ none
   unfolding verdict
   accepted_checks z e = (by_checks (first_failed (book_checks s)) (sizes_of s) z e).0
 
   -- and back
-  pub checks_refused : (r : Refusal) → first_failed (book_checks s) ≡ some r → verdict s ≡ Refused r
+  pub checks_refused : (r : Refusal) → first_failed (book_checks s) ≡ some r → verdict s ≡ Err r
   unfolding verdict
   checks_refused r e = rw e
 
-  pub checks_accepted : first_failed (book_checks s) ≡ none → (z : Sizes) × (verdict s ≡ Accepted z)
+  pub checks_accepted : first_failed (book_checks s) ≡ none → (z : Sizes) × (verdict s ≡ Ok z)
   unfolding verdict
   checks_accepted e = (sizes_of s, rw e)
 
-  pub refused_checks : (r : Refusal) → verdict s ≡ Refused r → first_failed (book_checks s) ≡ some r
+  pub refused_checks : (r : Refusal) → verdict s ≡ Err r → first_failed (book_checks s) ≡ some r
   unfolding verdict
   refused_checks r e = by_refusal (first_failed (book_checks s)) (sizes_of s) r e
 
@@ -58,9 +56,9 @@ pub record Passed (s : List ℕ) : Type 0 where
   pub deep : deep (main_of s) ≤ most_beside
   pub typed : typing_faults (policy_of s) ≡ []
 
-on_was : (x : Reading) → goes_on x ≡ true → (a : ℕ) × (x ≡ Next a)
-on_was (Next a) e = (a, refl)
-on_was (Wrong a) e = absurd (false≢true e)
+on_was : (x : Result ℕ ℕ) → goes_on x ≡ true → (a : ℕ) × (x ≡ Ok a)
+on_was (Ok a) e = (a, refl)
+on_was (Err a) e = absurd (false≢true e)
 
 none_was : (l : List ℕ) → no_fault l ≡ true → l ≡ []
 none_was [] e = refl
@@ -84,7 +82,7 @@ module _ (s : List ℕ) where
         typed = none_was (typing_faults (policy_of s)) typed;
       }
 
-  pub passed_was : (z : Sizes) → verdict s ≡ Accepted z → Passed s × (z ≡ sizes_of s)
+  pub passed_was : (z : Sizes) → verdict s ≡ Ok z → Passed s × (z ≡ sizes_of s)
   unfolding verdict
   passed_was z q =
       let k = by_checks (first_failed (book_checks s)) (sizes_of s) z q in
@@ -107,13 +105,13 @@ module _ (s : List ℕ) where
       & ap no_fault t.typed
       & end
 
-  pub passed_is : Passed s → verdict s ≡ Accepted (sizes_of s)
+  pub passed_is : Passed s → verdict s ≡ Ok (sizes_of s)
   unfolding verdict
   passed_is t = rw (none_failed (book_checks s) (held_is t))
 
 -- ---- acceptance
 
-pub accepted : (s : List ℕ) → Bytes s → (z : Sizes) → verdict s ≡ Accepted z
+pub accepted : (s : List ℕ) → Bytes s → (z : Sizes) → verdict s ≡ Ok z
     → Book (policy_of s) × (s ≡ write_book (policy_of s)) × (z ≡ sizes_of s)
 unfolding policy_of
 accepted s small z q =
@@ -128,7 +126,7 @@ accepted s small z q =
       t.1,
     )
 
-pub written : (P : Policy) → Book P → verdict (write_book P) ≡ Accepted (sizes_of (write_book P))
+pub written : (P : Policy) → Book P → verdict (write_book P) ≡ Ok (sizes_of (write_book P))
 unfolding policy_of
 written P b =
     let s : List ℕ = write_book P in
@@ -146,7 +144,7 @@ pub unique : (P Q : Policy) → WellFormed P → WellFormed Q → write_book P �
 unique P Q f g e = sym (whole_reads P f).1 ∙ ap policy_of e ∙ (whole_reads Q g).1
 
 -- the bytes that are accepted are exactly the policies that meet layout, limits and typing, written
-pub exactly : (s : List ℕ) → Bytes s → ((z : Sizes) × (verdict s ≡ Accepted z)) ↔ ((P : Policy) × Book P × (s ≡ write_book P))
+pub exactly : (s : List ℕ) → Bytes s → ((z : Sizes) × (verdict s ≡ Ok z)) ↔ ((P : Policy) × Book P × (s ≡ write_book P))
 exactly s small = (
   (λ a. (let w = accepted s small a.0 a.1 in (policy_of s, w.0, w.1))),
   (λ b. (sizes_of s, rw b.2 (written b.0 b.1))),

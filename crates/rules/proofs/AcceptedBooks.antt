@@ -1,10 +1,10 @@
 -- What may be relied on of an accepted book's main policy, each from the verdict alone.
+use Rattle.std.specs.Prelude.{Ok}
 use Prim.Native.Nat.{ℕ, ◌≤◌}
 use mathlib.Core.Path.{◌≡◌}
 use mathlib.Core.List.{List}
 use lib.ListN.{length}
 use Rattle.rules.specs.declared.Sizes.{Sizes}
-use Rattle.rules.specs.declared.Verdict.TheVariants.{Accepted}
 use Rattle.rules.specs.Masks.{all_fields, Sub}
 use Rattle.rules.specs.Parts.{Formed, parts, deep}
 use Rattle.rules.specs.Typing.{Right, tested, written}
@@ -15,7 +15,7 @@ use Rattle.rules.proofs.FieldsBelow.{FieldsBelow}
 use Rattle.rules.proofs.FineLaws.{main_formed, main_below, main_tested, main_written}
 use Rattle.rules.proofs.Acceptance.{passed_was, accepted}
 
-module _ (s : List ℕ) (z : Sizes) (yes : verdict s ≡ Accepted z) where
+module _ (s : List ℕ) (z : Sizes) (yes : verdict s ≡ Ok z) where
   pub accepted_sizes : z ≡ sizes_of s
   accepted_sizes = (passed_was s z yes).1
 

@@ -1,4 +1,5 @@
 -- When each answer of the evaluator and of a run is given, and that nothing lent changes where a call is turned away.
+use Rattle.std.specs.Prelude.{Err, Ok, Result}
 use Prim.Native.Nat.{ℕ, ◌*◌, ◌≤◌, ◌<◌}
 use native.Mathlib.Decide.{dec_le}
 use native.Mathlib.Omega.{arith}
@@ -12,14 +13,10 @@ use borrow.Author.Tests.{leb-true, le-leb, lt-leb, eqb-true, eq-eqb, ne_eqb, not
 use Rattle.rules.specs.declared.Reason.TheVariants.{PacketLength, Unpopulated, TooWide, Positions, BufferLength, Stuck}
 use Rattle.rules.specs.declared.Refusal.{Refusal}
 use Rattle.rules.specs.declared.Sizes.{Sizes}
-use Rattle.rules.specs.declared.Verdict.{Verdict}
-use Rattle.rules.specs.declared.Verdict.TheVariants.{Accepted, Refused}
 use Rattle.rules.specs.declared.Outcome.{Outcome}
-use Rattle.rules.specs.declared.Evaluated.{Evaluated}
-use Rattle.rules.specs.declared.Evaluated.TheVariants.{Given, NotGiven}
 use Rattle.rules.specs.declared.Ran.{Ran}
 use Rattle.rules.specs.declared.Finish.{Finish}
-use Rattle.rules.specs.declared.Ran.TheVariants.{Finished, NotRun}
+use Rattle.rules.specs.declared.Ran.TheVariants.{Finished}
 use Rattle.rules.specs.Packets.{most_packets}
 use Rattle.rules.specs.Parts.{names_open}
 use Rattle.rules.specs.Checks.{no_place, in_book, Check, check, check_at, first_failed}
@@ -37,36 +34,36 @@ use Rattle.rules.proofs.Acceptance.{accepted_checks, refused_checks, checks_acce
 -- ---- the evaluator's answers, one law for each way that it returns
 
 module _ (book packet : List ℕ) (words : ℕ) where
-  pub evaluated_refused : (r : Refusal) → verdict book ≡ Refused r → evaluated book packet words ≡ NotGiven r
+  pub evaluated_refused : (r : Refusal) → verdict book ≡ Err r → evaluated book packet words ≡ Err r
   unfolding evaluated evaluate_checks
   evaluated_refused r e = rw (failed_before (book_checks book) _ r (refused_checks book r e))
 
-  module _ (z : Sizes) (a : verdict book ≡ Accepted z) where
+  module _ (z : Sizes) (a : verdict book ≡ Ok z) where
     -- past the book's own checks
     evaluated_past : evaluated book packet words
         ≡ evaluated_by (first_failed (packet_checks book packet (result_check book words ∷ []))) (outcome book packet)
     unfolding evaluated evaluate_checks
     evaluated_past = rw (after_held (book_checks book) (packet_checks book packet _) (accepted_checks book z a))
 
-    pub evaluated_packet : (length packet ≡ fields_of book → ⊥) → evaluated book packet words ≡ NotGiven (no_place PacketLength)
+    pub evaluated_packet : (length packet ≡ fields_of book → ⊥) → evaluated book packet words ≡ Err (no_place PacketLength)
     unfolding packet_checks first_failed
     evaluated_packet h = evaluated_past ∙ rw (ne_eqb (length packet) (fields_of book) h)
 
     module _ (l : length packet ≡ fields_of book) where
-      pub evaluated_buffer : words < most_packets * fields_of book → evaluated book packet words ≡ NotGiven (no_place BufferLength)
+      pub evaluated_buffer : words < most_packets * fields_of book → evaluated book packet words ≡ Err (no_place BufferLength)
       unfolding packet_checks first_failed
       evaluated_buffer h =
           evaluated_past ∙ rw (eq-eqb (length packet) (fields_of book) l, lt-leb (most_packets * fields_of book) words h)
 
       module _ (b : most_packets * fields_of book ≤ words) where
-        pub evaluated_open : names_open (main_of book) ≡ true → evaluated book packet words ≡ NotGiven (no_place Unpopulated)
+        pub evaluated_open : names_open (main_of book) ≡ true → evaluated book packet words ≡ Err (no_place Unpopulated)
         unfolding packet_checks first_failed
         evaluated_open h =
             evaluated_past ∙ rw (eq-eqb (length packet) (fields_of book) l, le-leb (most_packets * fields_of book) words b, h)
 
         module _ (n : names_open (main_of book) ≡ false) where
           pub evaluated_wide : most_packets < width (main_of book) (start_set packet)
-              → evaluated book packet words ≡ NotGiven (no_place TooWide)
+              → evaluated book packet words ≡ Err (no_place TooWide)
           unfolding packet_checks first_failed
           evaluated_wide h =
               evaluated_past
@@ -78,7 +75,7 @@ module _ (book packet : List ℕ) (words : ℕ) where
               )
 
   pub evaluated_given : Granted book packet → most_packets * fields_of book ≤ words
-      → evaluated book packet words ≡ Given (outcome book packet)
+      → evaluated book packet words ≡ Ok (outcome book packet)
   unfolding packet_checks first_failed
   evaluated_given g b =
       evaluated_past g.sizes g.accepted
@@ -92,22 +89,22 @@ module _ (book packet : List ℕ) (words : ℕ) where
 -- ---- and back: what was too wide has a width over 16, and what was given was granted
 
 wide_was : (book packet : List ℕ) (words : ℕ) → Dec (width (main_of book) (start_set packet) ≤ most_packets)
-    → (width (main_of book) (start_set packet) ≤ most_packets → evaluated book packet words ≡ Given (outcome book packet))
-    → evaluated book packet words ≡ NotGiven (no_place TooWide) → most_packets < width (main_of book) (start_set packet)
+    → (width (main_of book) (start_set packet) ≤ most_packets → evaluated book packet words ≡ Ok (outcome book packet))
+    → evaluated book packet words ≡ Err (no_place TooWide) → most_packets < width (main_of book) (start_set packet)
 wide_was book packet words (yes h) g e =
-    let d : Given (outcome book packet) ≡ NotGiven (no_place TooWide) = sym (g h) ∙ e in
+    let d : Ok (outcome book packet) ≡ Err (no_place TooWide) = sym (g h) ∙ e in
     let z : ◌≡◌ {A = ℕ} 0 1 = cc in
     absurd (omega arith)
 wide_was book packet words (no h) g e = omega (arith, h)
 
-pub too_wide_was : (book packet : List ℕ) (words : ℕ) (z : Sizes) → verdict book ≡ Accepted z → length packet ≡ fields_of book
-    → most_packets * fields_of book ≤ words → names_open (main_of book) ≡ false → evaluated book packet words ≡ NotGiven (no_place TooWide)
+pub too_wide_was : (book packet : List ℕ) (words : ℕ) (z : Sizes) → verdict book ≡ Ok z → length packet ≡ fields_of book
+    → most_packets * fields_of book ≤ words → names_open (main_of book) ≡ false → evaluated book packet words ≡ Err (no_place TooWide)
     → most_packets < width (main_of book) (start_set packet)
 too_wide_was book packet words z a l b n =
     wide_was book packet words (dec_le _ _)
     (λ h. evaluated_given book packet words (record { sizes = z; accepted = a; words = l; populated = n; narrow = h }) b)
 
-given_none : (o : Option Refusal) (u v : Outcome) → evaluated_by o u ≡ Given v → (o ≡ none) × (v ≡ u)
+given_none : (o : Option Refusal) (u v : Outcome) → evaluated_by o u ≡ Ok v → (o ≡ none) × (v ≡ u)
 given_none none u v e = (refl, (let q : u ≡ v = cc in sym q))
 given_none (some r) u v e = let n : ◌≡◌ {A = ℕ} 0 1 = cc in absurd (omega arith)
 
@@ -127,7 +124,7 @@ module _ (book packet : List ℕ) (words : ℕ) where
         leb-true (most_packets * fields_of book) words fits,
       )
 
-  pub given_was : (o : Outcome) → evaluated book packet words ≡ Given o
+  pub given_was : (o : Outcome) → evaluated book packet words ≡ Ok o
       → Granted book packet × (most_packets * fields_of book ≤ words) × (o ≡ outcome book packet)
   unfolding evaluated evaluate_checks
   given_was o q =
@@ -139,7 +136,7 @@ module _ (book packet : List ℕ) (words : ℕ) where
 -- ---- a run's answers, one law for each way that it returns, in document 01's order
 
 -- 12 is 12, whichever buffer is too short
-either_buffer : (t : Bool) (r : Refusal) (a : Ran) → ran_by (cond t (some r) (some r)) a ≡ NotRun r
+either_buffer : (t : Bool) (r : Refusal) (a : Ran) → ran_by (cond t (some r) (some r)) a ≡ Err r
 either_buffer true r a = refl
 either_buffer false r a = refl
 
@@ -152,26 +149,26 @@ further_checks book packet schedule words area =
     ∷ [])
 
 module _ (book packet schedule : List ℕ) (words area : ℕ) where
-  pub ran_refused : (r : Refusal) → verdict book ≡ Refused r → ran book packet schedule words area ≡ NotRun r
+  pub ran_refused : (r : Refusal) → verdict book ≡ Err r → ran book packet schedule words area ≡ Err r
   unfolding ran run_checks
   ran_refused r e = rw (failed_before (book_checks book) _ r (refused_checks book r e))
 
-  module _ (z : Sizes) (a : verdict book ≡ Accepted z) where
+  module _ (z : Sizes) (a : verdict book ≡ Ok z) where
     ran_past : ran book packet schedule words area
         ≡ ran_by (first_failed (further_checks book packet schedule words area)) (stop_of book packet schedule)
     unfolding ran run_checks
     ran_past = rw (after_held (book_checks book) _ (accepted_checks book z a))
 
-    pub ran_packet : (length packet ≡ fields_of book → ⊥) → ran book packet schedule words area ≡ NotRun (no_place PacketLength)
+    pub ran_packet : (length packet ≡ fields_of book → ⊥) → ran book packet schedule words area ≡ Err (no_place PacketLength)
     unfolding packet_checks first_failed
     ran_packet h = ran_past ∙ rw (ne_eqb (length packet) (fields_of book) h)
 
     module _ (l : length packet ≡ fields_of book) where
-      pub ran_result_lem : words < most_packets * fields_of book → ran book packet schedule words area ≡ NotRun (no_place BufferLength)
+      pub ran_result_lem : words < most_packets * fields_of book → ran book packet schedule words area ≡ Err (no_place BufferLength)
       unfolding packet_checks first_failed
       ran_result_lem h = ran_past ∙ rw (eq-eqb (length packet) (fields_of book) l, lt-leb (most_packets * fields_of book) words h)
 
-      pub ran_area_lem : area < area_words → ran book packet schedule words area ≡ NotRun (no_place BufferLength)
+      pub ran_area_lem : area < area_words → ran book packet schedule words area ≡ Err (no_place BufferLength)
       unfolding packet_checks first_failed
       ran_area_lem h =
           ran_past
@@ -179,7 +176,7 @@ module _ (book packet schedule : List ℕ) (words area : ℕ) where
           (either_buffer (leb (most_packets * fields_of book) words) (no_place BufferLength) _)
 
       module _ (b : most_packets * fields_of book ≤ words) (w : area_words ≤ area) where
-        pub ran_open : names_open (main_of book) ≡ true → ran book packet schedule words area ≡ NotRun (no_place Unpopulated)
+        pub ran_open : names_open (main_of book) ≡ true → ran book packet schedule words area ≡ Err (no_place Unpopulated)
         unfolding packet_checks first_failed
         ran_open h =
             ran_past
@@ -192,7 +189,7 @@ module _ (book packet schedule : List ℕ) (words area : ℕ) where
 
         -- whatever the room
         pub ran_wide : names_open (main_of book) ≡ false → most_packets < width (main_of book) (start_set packet)
-            → ran book packet schedule words area ≡ NotRun (no_place TooWide)
+            → ran book packet schedule words area ≡ Err (no_place TooWide)
         unfolding packet_checks first_failed
         ran_wide n h =
             ran_past
@@ -206,7 +203,7 @@ module _ (book packet schedule : List ℕ) (words area : ℕ) where
 
   module _ (b : most_packets * fields_of book ≤ words) (w : area_words ≤ area) where
     pub ran_positions : Granted book packet → most_positions < room (main_of book) (start_set packet)
-        → ran book packet schedule words area ≡ NotRun (no_place Positions)
+        → ran book packet schedule words area ≡ Err (no_place Positions)
     unfolding packet_checks first_failed
     ran_positions g h =
         ran_past g.sizes g.accepted
@@ -238,18 +235,18 @@ module _ (book packet schedule : List ℕ) (words area : ℕ) where
 
     -- a run that is admitted and not stuck stops as its schedule says
     pub ran_admitted : Admitted book packet → stuck_in (start book packet) schedule ≡ []
-        → ran book packet schedule words area ≡ stop_of book packet schedule
+        → ran book packet schedule words area ≡ Ok (stop_of book packet schedule)
     ran_admitted a free = ran_through a ∙ rw free
 
     -- 13 is the first stuck step's place; the typing shuts it out (`never_stuck`)
     pub ran_stuck : Admitted book packet → (at : ℕ) (l : List ℕ) → stuck_in (start book packet) schedule ≡ at ∷ l
-        → ran book packet schedule words area ≡ NotRun (in_book Stuck at)
+        → ran book packet schedule words area ≡ Err (in_book Stuck at)
     ran_stuck a at l e = ran_through a ∙ rw e
 
 -- ---- and back: a run that finished was admitted
 
-finished_none : (o : Option Refusal) (a : Ran) (f : Finish) → ran_by o a ≡ Finished f → (o ≡ none) × (a ≡ Finished f)
-finished_none none a f e = (refl, e)
+finished_none : (o : Option Refusal) (a : Ran) (f : Finish) → ran_by o a ≡ Ok (Finished f) → (o ≡ none) × (a ≡ Finished f)
+finished_none none a f e = (refl, cc)
 finished_none (some r) a f e = let n : ◌≡◌ {A = ℕ} 0 1 = cc in absurd (omega arith)
 
 module _ (book packet schedule : List ℕ) (words area : ℕ) where
@@ -268,7 +265,7 @@ module _ (book packet schedule : List ℕ) (words area : ℕ) where
         positions = leb-true (room (main_of book) (start_set packet)) most_positions few;
       }
 
-  pub finished_was : (f : Finish) → ran book packet schedule words area ≡ Finished f
+  pub finished_was : (f : Finish) → ran book packet schedule words area ≡ Ok (Finished f)
       → Admitted book packet × (stop_of book packet schedule ≡ Finished f)
   unfolding ran run_checks
   finished_was f q =
@@ -278,27 +275,27 @@ module _ (book packet schedule : List ℕ) (words area : ℕ) where
 
 -- ---- "No refusal alters the result buffer or the working area"
 
-pub not_given_keeps : (book packet result : List ℕ) (r : Refusal) → evaluated book packet (length result) ≡ NotGiven r
+pub not_given_keeps : (book packet result : List ℕ) (r : Refusal) → evaluated book packet (length result) ≡ Err r
     → evaluated_result book packet result ≡ result
 unfolding evaluated_result
 not_given_keeps book packet result r e = rw e
 
 pub not_run_keeps : (book packet schedule result area : List ℕ) (r : Refusal)
-    → ran book packet schedule (length result) (length area) ≡ NotRun r
+    → ran book packet schedule (length result) (length area) ≡ Err r
     → (ran_result book packet schedule result (length area) ≡ result) × (ran_area book packet schedule (length result) area ≡ area)
 unfolding ran_result ran_area
 not_run_keeps book packet schedule result area r e = (rw e, rw e)
 
 -- ---- the promises of the public calls, from the answer itself
 
-pub accept_answer : {book : List ℕ} {r : Verdict} → r ≡ verdict book → AcceptAnswer book r
+pub accept_answer : {book : List ℕ} {r : Result Sizes Refusal} → r ≡ verdict book → AcceptAnswer book r
 accept_answer e = record { is = e; says = ap verdict_says e }
 
-pub evaluate_answer : {book packet result result' : List ℕ} {r : Evaluated} → r ≡ evaluated book packet (length result)
+pub evaluate_answer : {book packet result result' : List ℕ} {r : Result Outcome Refusal} → r ≡ evaluated book packet (length result)
     → result' ≡ evaluated_result book packet result → EvaluateAnswer book packet result r result'
 evaluate_answer e o = record { is = e; says = ap evaluated_says e; out = o }
 
-pub run_answer : {book packet schedule result area result' area' : List ℕ} {r : Ran}
+pub run_answer : {book packet schedule result area result' area' : List ℕ} {r : Result Ran Refusal}
     → r ≡ ran book packet schedule (length result) (length area) → result' ≡ ran_result book packet schedule result (length area)
     → area' ≡ ran_area book packet schedule (length result) area → RunAnswer book packet schedule result area r result' area'
 run_answer e o w = record { is = e; says = ap ran_says e; out = o; work = w }

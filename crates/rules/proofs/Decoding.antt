@@ -1,5 +1,6 @@
 -- The part level of acceptance: what the reader of a part lets through is a fine part, written, and the decoder gives it (`read`);
 -- and a fine part, written, is let through and decodes to itself (`reads`).
+use Rattle.std.specs.Prelude.{Err, Ok, Result, ℕ}
 use Prim.Native.Nat.{ℕ, zero, suc, ◌+◌, ◌/◌, ◌%◌, ◌^◌, ◌<◌, ◌≤◌}
 use native.Mathlib.Omega.{arith}
 use native.Mathlib.Numerals.{add-one}
@@ -12,8 +13,6 @@ use lib.Dec.{ltb, leb, eqb, lit≤}
 use lib.ListN.{length, get_or, take, drop, length-drop, length-append, take-append-drop}
 use lib.Seq.{drop-cons, drop-drop, drop-append-le, drop-append_seam, length-take-le, take-append_seam, take-nil}
 use borrow.Author.Tests.{lt-ltb, le-leb, ltb-true, leb-true, eqb-true, not-true}
-use Rattle.rules.specs.declared.Reading.{Reading}
-use Rattle.rules.specs.declared.Reading.TheVariants.{Next, Wrong}
 use Rattle.rules.specs.Codes.{operands_of, parts_of}
 use Rattle.rules.specs.Parts.{Part, Id, Drop, Test, Set, Not, Sum, Seq, Beside, Table, Open, write, size}
 use Rattle.rules.specs.Books.{most_depth, Bytes, Scope, Fine}
@@ -63,9 +62,9 @@ named_fine c named d x pred _ e (unpopulated r w) h m l u = (h, m, l, u, e)
 
 -- ---- what is read was written
 
-pub then_was : (x : Reading) (f : ℕ → Reading) (e : ℕ) → and_then x f ≡ Next e → (a : ℕ) × (x ≡ Next a) × (f a ≡ Next e)
-then_was (Next a) f e q = (a, refl, q)
-then_was (Wrong a) f e q = let z : ◌≡◌ {A = ℕ} 0 1 = cc in absurd (omega arith)
+pub then_was : (x : Result ℕ ℕ) (f : ℕ → Result ℕ ℕ) (e : ℕ) → and_then x f ≡ Ok e → (a : ℕ) × (x ≡ Ok a) × (f a ≡ Ok e)
+then_was (Ok a) f e q = (a, refl, q)
+then_was (Err a) f e q = let z : ◌≡◌ {A = ℕ} 0 1 = cc in absurd (omega arith)
 
 -- n bytes from a place on
 unfoldable bytes : List ℕ → ℕ → ℕ → List ℕ
@@ -92,7 +91,7 @@ bytes_are s n a h =
     ∙ ap (λ (x : ℕ). take x (bytes s a n ++ drop (a + n) s)) (sym (bytes_length s n a))
     ∙ take-append_seam (bytes s a n) (drop (a + n) s)
 
-byte_drop : (s : List ℕ) (ok : ℕ → Bool) (at a : ℕ) → byte_if s ok at ≡ Next a
+byte_drop : (s : List ℕ) (ok : ℕ → Bool) (at a : ℕ) → byte_if s ok at ≡ Ok a
     → (a ≡ at + 1) × (ok (get_or s at 0) ≡ true) × (drop at s ≡ get_or s at 0 ∷ drop (at + 1) s) × (at < length s)
 byte_drop s ok at a q =
     let w : (at < length s) × (ok (get_or s at 0) ≡ true) × (a ≡ at + 1) = byte_was s ok at a q in
@@ -105,7 +104,7 @@ module _ (s : List ℕ) (k m code at b : ℕ) where
       (b ≡ at + 1 + operands_of code) × (drop (at + 1) s ≡ bytes s (at + 1) (operands_of code) ++ drop b s)
       × (operands_wrong k m code (bytes s (at + 1) (operands_of code)) ≡ none)
 
-  operands_read : read_operands s k m code at ≡ Next b → OperandsRead
+  operands_read : read_operands s k m code at ≡ Ok b → OperandsRead
   operands_read q =
       let w = operands_were s k m code at b q in
       let n : ℕ = operands_of code in (
@@ -212,16 +211,16 @@ module _ (s : List ℕ) (small : Bytes s) (c : Scope) (named : ℕ → Part) (na
       × (drop b s ≡ part_bytes n (write (part_at s named d b)) (write (part_at s named d (after s d b))) ++ drop e s)
       × FineParts (Fine c named d pred) n (part_at s named d b) (part_at s named d (after s d b)) × (b ≤ length s → e ≤ length s)
 
-  parts_read : (d : ℕ) (pred : Bool) (f : ℕ → Reading) → ((x y : ℕ) → f x ≡ Next y → Read s c named d pred x y)
-      → (n b e : ℕ) → n ≤ 2 → read_times n f b ≡ Next e → PartsRead d pred n b e
+  parts_read : (d : ℕ) (pred : Bool) (f : ℕ → Result ℕ ℕ) → ((x y : ℕ) → f x ≡ Ok y → Read s c named d pred x y)
+      → (n b e : ℕ) → n ≤ 2 → read_times n f b ≡ Ok e → PartsRead d pred n b e
   parts_read d pred f ih zero b e le q = let z : b ≡ e = cc in (z, ap (λ (x : ℕ). drop x s) z, tt, λ h. omega arith)
   parts_read d pred f ih (suc zero) b e le q =
-      let w = then_was (f b) (λ x. Next x) e q in
+      let w = then_was (f b) (λ x. Ok x) e q in
       let g : Read s c named d pred b e = ih b e (w.1 ∙ w.2) in
       (g.0, g.1, g.2, λ le. g.3)
   parts_read d pred f ih (suc (suc zero)) b e le q =
       let w = then_was (f b) (read_times 1 f) e q in
-      let v = then_was (f w.0) (λ x. Next x) e w.2 in
+      let v = then_was (f w.0) (λ x. Ok x) e w.2 in
       let g : Read s c named d pred b w.0 = ih b w.0 w.1 in
       let h : Read s c named d pred (after s d b) e
       = subst (λ (x : ℕ). Read s c named d pred x e) (sym g.0) (ih w.0 e (v.1 ∙ v.2)) in
@@ -260,14 +259,14 @@ module _ (s : List ℕ) (small : Bytes s) (c : Scope) (named : ℕ → Part) (na
           w.3 le,
         )
 
-  pub read : (d : ℕ) (pred : Bool) (at e : ℕ) → read_part s c d pred at ≡ Next e → Read s c named d pred at e
+  pub read : (d : ℕ) (pred : Bool) (at e : ℕ) → read_part s c d pred at ≡ Ok e → Read s c named d pred at e
   unfolding read_part
   read zero pred at e q =
-      let w = then_was (byte_if s (stands c.main pred) at) (λ a. Wrong at) e q in
+      let w = then_was (byte_if s (stands c.main pred) at) (λ a. Err at) e q in
       let z : ◌≡◌ {A = ℕ} 0 1 = cc in absurd (omega arith)
   read (suc d) pred at e q = go (λ p x y h. read d p x y h)
     where
-      go : ((p : Bool) (x y : ℕ) → read_part s c d p x ≡ Next y → Read s c named d p x y) → Read s c named (suc d) pred at e
+      go : ((p : Bool) (x y : ℕ) → read_part s c d p x ≡ Ok y → Read s c named d p x y) → Read s c named (suc d) pred at e
       go ih =
           let code : ℕ = get_or s at 0 in
           let w = then_was (byte_if s (stands c.main pred) at) _ e q in
@@ -311,7 +310,7 @@ masks_of s at a b rest e =
 module _ (s : List ℕ) where
   reads_operands : (k m code at : ℕ) (bs rest : List ℕ) → drop (at + 1) s ≡ bs ++ rest → length bs ≡ operands_of code
       → at < length s → operands_wrong k m code bs ≡ none
-      → (read_operands s k m code at ≡ Next (at + 1 + operands_of code)) × (drop (at + 1 + operands_of code) s ≡ rest)
+      → (read_operands s k m code at ≡ Ok (at + 1 + operands_of code)) × (drop (at + 1 + operands_of code) s ≡ rest)
   reads_operands k m code at bs rest e len lt o =
       let n : ℕ = operands_of code in
       let there : at + 1 + n ≤ length s = omega (arith, ap length e, length-drop (at + 1) s, length-append bs rest) in
@@ -323,7 +322,7 @@ module _ (s : List ℕ) where
   module _ (c : Scope) (named : ℕ → Part) where
     -- the part at a place is read, decodes to p, and the rest stands after it
     abbrev ReadsTo : ℕ → Bool → ℕ → Part → List ℕ → ℕ → Type 0
-    ReadsTo d pred at p rest e = (read_part s c d pred at ≡ Next e) × (part_at s named d at ≡ p) × (after s d at ≡ e) × (drop e s ≡ rest)
+    ReadsTo d pred at p rest e = (read_part s c d pred at ≡ Ok e) × (part_at s named d at ≡ p) × (after s d at ≡ e) × (drop e s ≡ rest)
 
     abbrev pub Reads : ℕ → Bool → ℕ → Part → List ℕ → Type 0
     Reads d pred at p rest = ReadsTo d pred at p rest (at + size p)
@@ -344,7 +343,7 @@ module _ (s : List ℕ) where
     reads_head d pred at code bs rest e st len o =
         let h = drop_head s at code (bs ++ rest) e in
         let is : ℕ → Bool = stands c.main pred in
-        let n : Next (at + 1) ≡ byte_if s is at = byte_next s is at h.0 (ap is h.1 ∙ st) in
+        let n : Ok (at + 1) ≡ byte_if s is at = byte_next s is at h.0 (ap is h.1 ∙ st) in
         let g = reads_operands c.fields c.tables code at bs rest h.2 len h.0 o in
         (rw (← n, h.1, g.0), rw h.1, rw (lt-ltb at (length s) h.0, h.1), g.1, h.2)
 
@@ -442,22 +441,22 @@ drop_take (suc a) n [] = ap (λ (k : ℕ). drop (suc a) (take k [])) (suc-add a 
 drop_take (suc a) n (x ∷ s) = ap (λ (k : ℕ). drop (suc a) (take k (x ∷ s))) (suc-add a n) ∙ drop_take a n s
 
 -- a body that is read is one part, and ends where s ends
-body_was : (s : List ℕ) (c : Scope) (start e : ℕ) → read_body s c start ≡ Next e
-    → (read_part s c most_depth false start ≡ Next e) × (e ≡ length s)
+body_was : (s : List ℕ) (c : Scope) (start e : ℕ) → read_body s c start ≡ Ok e
+    → (read_part s c most_depth false start ≡ Ok e) × (e ≡ length s)
 unfolding read_body
-body_was s c start e q = go (then_was (read_part s c most_depth false start) (λ a. cond (eqb a (length s)) (Next a) (Wrong a)) e q)
+body_was s c start e q = go (then_was (read_part s c most_depth false start) (λ a. cond (eqb a (length s)) (Ok a) (Err a)) e q)
   where
-    ends : (a : ℕ) (x : Bool) → eqb a (length s) ≡ x → cond x (Next a) (Wrong a) ≡ Next e → (a ≡ e) × (a ≡ length s)
+    ends : (a : ℕ) (x : Bool) → eqb a (length s) ≡ x → cond x (Ok a) (Err a) ≡ Ok e → (a ≡ e) × (a ≡ length s)
     ends a true h q = (cc, eqb-true a (length s) h)
     ends a false h q = let z : ◌≡◌ {A = ℕ} 0 1 = cc in absurd (omega arith)
 
-    go : (a : ℕ) × (read_part s c most_depth false start ≡ Next a) × (cond (eqb a (length s)) (Next a) (Wrong a) ≡ Next e)
-        → (read_part s c most_depth false start ≡ Next e) × (e ≡ length s)
-    go w = let z = ends w.0 (eqb w.0 (length s)) refl w.2 in (w.1 ∙ ap (λ (a : ℕ). Next a) z.0, sym z.0 ∙ z.1)
+    go : (a : ℕ) × (read_part s c most_depth false start ≡ Ok a) × (cond (eqb a (length s)) (Ok a) (Err a) ≡ Ok e)
+        → (read_part s c most_depth false start ≡ Ok e) × (e ≡ length s)
+    go w = let z = ends w.0 (eqb w.0 (length s)) refl w.2 in (w.1 ∙ ap (λ (a : ℕ). Ok a) z.0, sym z.0 ∙ z.1)
 
 module _ (s : List ℕ) (small : Bytes s) (c : Scope) (named : ℕ → Part) (names : Names c named) where
   -- a part read in the front of s is decoded in s: both are the one fine part that is written there
-  pub read_front : (n d : ℕ) (pred : Bool) (at e : ℕ) → read_part (take n s) c d pred at ≡ Next e
+  pub read_front : (n d : ℕ) (pred : Bool) (at e : ℕ) → read_part (take n s) c d pred at ≡ Ok e
       → Read s c named d pred at e × (part_at (take n s) named d at ≡ part_at s named d at)
   read_front n d pred at e q =
       let f : List ℕ = take n s in
@@ -472,7 +471,7 @@ module _ (s : List ℕ) (small : Bytes s) (c : Scope) (named : ℕ → Part) (na
       ((h.2 ∙ sym z, rw h.1 w, rw h.1 g.2, omega (arith, written_within s at p (drop e s) w)), sym h.1)
 
   -- the body between two places of s, if it is read: one fine part, written there
-  pub body_read : (start e a : ℕ) → e ≤ length s → read_body (take e s) c start ≡ Next a
+  pub body_read : (start e a : ℕ) → e ≤ length s → read_body (take e s) c start ≡ Ok a
       → (a ≡ e) × (e ≡ start + size (part_at s named most_depth start))
       × (drop start s ≡ write (part_at s named most_depth start) ++ drop e s) × Fine c named most_depth false (part_at s named most_depth start)
   body_read start e a le q =
@@ -485,7 +484,7 @@ module _ (s : List ℕ) (small : Bytes s) (c : Scope) (named : ℕ → Part) (na
 -- and a fine part that is written between two places is read there as a body
 pub body_reads : (s : List ℕ) (c : Scope) (named : ℕ → Part) (start e : ℕ) (p : Part) (rest : List ℕ) → Fine c named most_depth false p
     → drop start s ≡ write p ++ rest → e ≡ start + size p
-    → (read_body (take e s) c start ≡ Next e) × (part_at s named most_depth start ≡ p)
+    → (read_body (take e s) c start ≡ Ok e) × (part_at s named most_depth start ≡ p)
 body_reads s c named start e p rest f w z =
     let in_s : start + size p + length rest ≡ length s = written_within s start p rest w in
     let len : length (take e s) ≡ e = length-take-le e s (omega arith) in
@@ -493,4 +492,4 @@ body_reads s c named start e p rest f w z =
     = ap (λ (x : ℕ). drop start (take x s)) z ∙ drop_take start (size p) s ∙ ap (take (size p)) w
     ∙ take-append_seam (write p) rest ∙ sym (append-nil (write p)) in
     let h = reads (take e s) c named most_depth false start p [] f front in
-    (body_whole (take e s) c start e (h.0 ∙ ap (λ (a : ℕ). Next a) (sym z)) (sym len), (reads s c named most_depth false start p rest f w).1)
+    (body_whole (take e s) c start e (h.0 ∙ ap (λ (a : ℕ). Ok a) (sym z)) (sym len), (reads s c named most_depth false start p rest f w).1)

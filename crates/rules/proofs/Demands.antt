@@ -1,5 +1,6 @@
 -- The three demands on one page, as far as they speak of the rules; each is proved by citing the theorem that shows it.
 -- What they say of the code stands in the contracts of the functions, which are stated by the same definitions.
+use Rattle.std.specs.Prelude.{Err, Ok, Result}
 use Prim.Native.Nat.{ℕ, ◌*◌, ◌^◌, ◌≤◌, ◌<◌}
 use native.Mathlib.Omega.{arith}
 use mathlib.Core.Path.{◌≡◌, sym, ◌∙◌}
@@ -11,10 +12,6 @@ use lib.ListN.{length, take, length-map}
 use Rattle.rules.specs.declared.Reason.TheVariants.{TooWide}
 use Rattle.rules.specs.declared.Refusal.{Refusal}
 use Rattle.rules.specs.declared.Sizes.{Sizes}
-use Rattle.rules.specs.declared.Verdict.{Verdict}
-use Rattle.rules.specs.declared.Verdict.TheVariants.{Accepted, Refused}
-use Rattle.rules.specs.declared.Evaluated.TheVariants.{NotGiven}
-use Rattle.rules.specs.declared.Ran.TheVariants.{NotRun}
 use Rattle.rules.specs.Packets.{Packet, Packets, most_packets, Ascending, ◌∈◌, values_of}
 use Rattle.rules.specs.Parts.{Part, Beside, parts, deep, names_open}
 use Rattle.rules.specs.Typing.{Right, tested, written, right_beside}
@@ -61,23 +58,23 @@ pub use Rattle.rules.proofs.Numbers.{number-table}
 -- ---- Demand 1: any book, packet, schedule or buffer is answered. `verdict`, `evaluated` and `ran` are functions of all bytes, words
 -- and lengths, so there is an answer, and one. Bad input is refused by number, and a refusal changes nothing lent.
 
-pub one_verdict : (book : List ℕ) → (v : Verdict) × ((w : Verdict) → verdict book ≡ w → w ≡ v)
+pub one_verdict : (book : List ℕ) → (v : Result Sizes Refusal) × ((w : Result Sizes Refusal) → verdict book ≡ w → w ≡ v)
 one_verdict book = (verdict book, λ w e. sym e)
 
 -- and each call has its own numbers: 1 to 7 a book; 8, 9, 10 and 12 besides an evaluation; 11 besides a run, and never 13
-pub accept_numbered : (book : List ℕ) (r : Refusal) → verdict book ≡ Refused r → number_of r ≤ 7
+pub accept_numbered : (book : List ℕ) (r : Refusal) → verdict book ≡ Err r → number_of r ≤ 7
 accept_numbered = book_numbers
 
-pub evaluate_numbered : (book packet : List ℕ) (words : ℕ) (r : Refusal) → evaluated book packet words ≡ NotGiven r
+pub evaluate_numbered : (book packet : List ℕ) (words : ℕ) (r : Refusal) → evaluated book packet words ≡ Err r
     → (number_of r ≤ 10) ⊎ (number_of r ≡ 12)
 evaluate_numbered = evaluation_numbers
 
-pub refused_evaluation_keeps : (book packet result : List ℕ) (r : Refusal) → evaluated book packet (length result) ≡ NotGiven r
+pub refused_evaluation_keeps : (book packet result : List ℕ) (r : Refusal) → evaluated book packet (length result) ≡ Err r
     → evaluated_result book packet result ≡ result
 refused_evaluation_keeps = not_given_keeps
 
 pub refused_run_keeps : (book packet schedule result area : List ℕ) (r : Refusal)
-    → ran book packet schedule (length result) (length area) ≡ NotRun r
+    → ran book packet schedule (length result) (length area) ≡ Err r
     → (ran_result book packet schedule result (length area) ≡ result) × (ran_area book packet schedule (length result) area ≡ area)
 refused_run_keeps = not_run_keeps
 
@@ -85,7 +82,7 @@ refused_run_keeps = not_run_keeps
 -- is unique; the packets given are exactly those of the published meaning.
 
 pub accepted_exactly : (book : List ℕ) → Bytes book
-    → ((z : Sizes) × (verdict book ≡ Accepted z)) ↔ ((P : Policy) × Book P × (book ≡ write_book P))
+    → ((z : Sizes) × (verdict book ≡ Ok z)) ↔ ((P : Policy) × Book P × (book ≡ write_book P))
 accepted_exactly = exactly
 
 pub policy_unique : (P Q : Policy) → WellFormed P → WellFormed Q → write_book P ≡ write_book Q → P ≡ Q
@@ -247,9 +244,9 @@ width_reached book packet = part-width-reached (start_spot book) (main_of book) 
 
 -- so 10 is exact: past 1 to 9 and 12 it is given if and only if some state that the steps reach has a position with over 16 packets.
 -- The choices are numbers of any size: where the room is over 256, bytes need not reach every state.
-pub ten_exactly : (book packet : List ℕ) (words : ℕ) (z : Sizes) → verdict book ≡ Accepted z → length packet ≡ fields_of book
+pub ten_exactly : (book packet : List ℕ) (words : ℕ) (z : Sizes) → verdict book ≡ Ok z → length packet ≡ fields_of book
     → most_packets * fields_of book ≤ words → names_open (main_of book) ≡ false
-    → (evaluated book packet words ≡ NotGiven (no_place TooWide))
+    → (evaluated book packet words ≡ Err (no_place TooWide))
     ↔ ((schedule : List ℕ) × (most_packets < held (run (start book packet) schedule)))
 unfolding start
 ten_exactly book packet words z a l b n =
@@ -263,15 +260,15 @@ module _ (book packet schedule : List ℕ) (words area : ℕ) (bytes : Bytes boo
   let_through_stops : LetThrough book packet words area → Stops book packet schedule (ran book packet schedule words area)
   let_through_stops l = one_number book packet bytes l.0 schedule words area l.1 l.2
 
-  pub turned_away_exactly : (r : Refusal) → (ran book packet schedule words area ≡ NotRun r) ↔ TurnedAway book packet words area r
+  pub turned_away_exactly : (r : Refusal) → (ran book packet schedule words area ≡ Err r) ↔ TurnedAway book packet words area r
   turned_away_exactly r = (
     turned_away_was book packet schedule words area let_through_stops r,
     turned_away_is book packet words area schedule r,
   )
 
-  pub run_numbered : (r : Refusal) → ran book packet schedule words area ≡ NotRun r → number_of r ≤ 12
+  pub run_numbered : (r : Refusal) → ran book packet schedule words area ≡ Err r → number_of r ≤ 12
   run_numbered r e = run_numbers book packet words area r ((turned_away_exactly r).0 e)
 
-  pub let_through : ((r : Refusal) → ran book packet schedule words area ≡ NotRun r → ⊥)
+  pub let_through : ((r : Refusal) → ran book packet schedule words area ≡ Err r → ⊥)
       → Admitted book packet × (most_packets * fields_of book ≤ words) × (area_words ≤ area)
   let_through = let_through_was book packet schedule words area let_through_stops

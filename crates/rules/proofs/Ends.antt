@@ -1,5 +1,6 @@
 -- That a run ends as specs/Ends says: turned away exactly by the first number that applies, and otherwise let through; and what
 -- each end leaves in the buffers.
+use Rattle.std.specs.Prelude.{Err, Ok, Result}
 use Prim.Native.Nat.{ℕ, ◌*◌, ◌≤◌}
 use native.Mathlib.Omega.{arith}
 use native.Mathlib.Nat.{suc-mul}
@@ -12,11 +13,9 @@ use lib.ListN.{length, take, drop, replicate, length-append, length-replicate}
 use lib.Seq.{take_all, take_at, take-take, drop_at}
 use Rattle.rules.specs.declared.Refusal.{Refusal}
 use Rattle.rules.specs.declared.Sizes.{Sizes}
-use Rattle.rules.specs.declared.Verdict.{Verdict}
-use Rattle.rules.specs.declared.Verdict.TheVariants.{Accepted, Refused}
 use Rattle.rules.specs.declared.Finish.{Finish}
 use Rattle.rules.specs.declared.Progress.{Progress}
-use Rattle.rules.specs.declared.Ran.TheVariants.{Finished, Running, NotRun}
+use Rattle.rules.specs.declared.Ran.TheVariants.{Finished, Running}
 use Rattle.rules.specs.Packets.{Packet, Packets, ◌∈◌, most_packets, values_of}
 use Rattle.rules.specs.Parts.{names_open}
 use Rattle.rules.specs.Reading.{fields_of, main_of}
@@ -46,7 +45,7 @@ module _ (book packet : List ℕ) (words area : ℕ) where
 
   -- what turns a run away is what it answers, whatever the schedule
   pub turned_away_is : (schedule : List ℕ) (r : Refusal) → TurnedAway book packet words area r
-      → ran book packet schedule words area ≡ NotRun r
+      → ran book packet schedule words area ≡ Err r
   turned_away_is schedule r (by_book e) = ran_refused book packet schedule words area r e
   turned_away_is schedule r (by_packet {z} e n) = ran_packet book packet schedule words area z e n
   turned_away_is schedule r (by_buffer f (inl h)) =
@@ -86,26 +85,26 @@ module _ (book packet : List ℕ) (words area : ℕ) where
   by_buffer_of f (yes h) (yes l) =
       by_table_of (record { fitting = f; fits = h; wide = l }) (names_open (main_of book)) refl
 
-  by_packet_of : (z : Sizes) → verdict book ≡ Accepted z → Dec (length packet ≡ fields_of book) → Sorted
+  by_packet_of : (z : Sizes) → verdict book ≡ Ok z → Dec (length packet ≡ fields_of book) → Sorted
   by_packet_of z e (no n) = inl (_, by_packet e n)
   by_packet_of z e (yes h) =
       by_buffer_of (record { sizes = z; accepted = e; words = h }) (dec_le (16 * fields_of book) words) (dec_le 21760 area)
 
-  by_verdict_of : (v : Verdict) → verdict book ≡ v → Sorted
-  by_verdict_of (Refused r) e = inl (r, by_book e)
-  by_verdict_of (Accepted z) e = by_packet_of z e (ℕ_discrete (length packet) (fields_of book))
+  by_verdict_of : (v : Result Sizes Refusal) → verdict book ≡ v → Sorted
+  by_verdict_of (Err r) e = inl (r, by_book e)
+  by_verdict_of (Ok z) e = by_packet_of z e (ℕ_discrete (length packet) (fields_of book))
 
   pub sorted : ((r : Refusal) × TurnedAway book packet words area r) ⊎ LetThrough book packet words area
   sorted = by_verdict_of (verdict book) refl
 
 -- a run that stops was not turned away
-stops_runs : (book packet schedule : List ℕ) (r : Refusal) → Stops book packet schedule (NotRun r) → ⊥
+stops_runs : (book packet schedule : List ℕ) (r : Refusal) → Stops book packet schedule (Err r) → ⊥
 stops_runs book packet schedule r (finishes h e) = let z : ◌≡◌ {A = ℕ} 0 1 = cc in absurd (omega arith)
 stops_runs book packet schedule r (goes_on h l n m k e) = let z : ◌≡◌ {A = ℕ} 0 1 = cc in absurd (omega arith)
 
 module _ (book packet schedule : List ℕ) (words area : ℕ)
     (stops : LetThrough book packet words area → Stops book packet schedule (ran book packet schedule words area)) where
-  pub turned_away_was : (r : Refusal) → ran book packet schedule words area ≡ NotRun r → TurnedAway book packet words area r
+  pub turned_away_was : (r : Refusal) → ran book packet schedule words area ≡ Err r → TurnedAway book packet words area r
   turned_away_was r e =
       ⊎_elim
       (λ (t : (q : Refusal) × TurnedAway book packet words area q).
@@ -115,7 +114,7 @@ module _ (book packet schedule : List ℕ) (words area : ℕ)
       (λ (l : LetThrough book packet words area). absurd (stops_runs book packet schedule r (rw e at (stops l))))
       (sorted book packet words area)
 
-  pub let_through_was : ((r : Refusal) → ran book packet schedule words area ≡ NotRun r → ⊥) → LetThrough book packet words area
+  pub let_through_was : ((r : Refusal) → ran book packet schedule words area ≡ Err r → ⊥) → LetThrough book packet words area
   let_through_was n =
       ⊎_elim
       (λ (t : (q : Refusal) × TurnedAway book packet words area q).
@@ -163,17 +162,17 @@ zeros_clear area =
     record { front = overwritten_front zeros area 21760 e; others = overwritten_others zeros area 21760 e }
 
 module _ (book packet schedule result area : List ℕ) where
-  pub finished_clears : (f : Finish) → ran book packet schedule (length result) (length area) ≡ Finished f
+  pub finished_clears : (f : Finish) → ran book packet schedule (length result) (length area) ≡ Ok (Finished f)
       → Cleared area (ran_area book packet schedule (length result) area)
   unfolding ran_area
   finished_clears f e = rw e (zeros_clear area)
 
-  pub running_clears : (p : Progress) → ran book packet schedule (length result) (length area) ≡ Running p
+  pub running_clears : (p : Progress) → ran book packet schedule (length result) (length area) ≡ Ok (Running p)
       → Cleared area (ran_area book packet schedule (length result) area)
   unfolding ran_area
   running_clears p e = rw e (zeros_clear area)
 
-  pub running_keeps : (p : Progress) → ran book packet schedule (length result) (length area) ≡ Running p
+  pub running_keeps : (p : Progress) → ran book packet schedule (length result) (length area) ≡ Ok (Running p)
       → ran_result book packet schedule result (length area) ≡ result
   unfolding ran_result
   running_keeps p e = rw e

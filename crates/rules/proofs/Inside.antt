@@ -1,4 +1,5 @@
 -- Walking an accepted book stays inside it: each part that a walk comes to is written at its place, and decoded there.
+use Rattle.std.specs.Prelude.{Ok}
 use Prim.Native.Nat.{ℕ, suc, ◌+◌}
 use native.Mathlib.Omega.{arith}
 use mathlib.Core.Path.{◌≡◌, ◌∙◌}
@@ -6,7 +7,6 @@ use mathlib.Core.Bool.{Bool, true, false}
 use mathlib.Core.List.{List, ◌∷◌, ◌++◌, append_assoc}
 use lib.ListN.{drop}
 use Rattle.rules.specs.declared.Sizes.{Sizes}
-use Rattle.rules.specs.declared.Verdict.TheVariants.{Accepted}
 use Rattle.rules.specs.Parts.{Part, Not, Sum, Seq, Beside, write, size}
 use Rattle.rules.specs.Books.{Scope, scope_of, Fine, most_depth, bytes_of, entries, Bytes}
 use Rattle.rules.specs.Reading.{fields_of, tables_of, body_start, use_at, main_of, policy_of, verdict}
@@ -60,7 +60,7 @@ module _ (s : List ℕ) (c : Scope) (named : ℕ → Part) (d : ℕ) (pred : Boo
         two_placed (at + 3) p q h.rest h.fine.3 h.fine.4 (rw three at e.2)
 
 -- the main policy of an accepted book is placed where its body starts
-pub main_placed : (s : List ℕ) (z : Sizes) → verdict s ≡ Accepted z → Bytes s
+pub main_placed : (s : List ℕ) (z : Sizes) → verdict s ≡ Ok z → Bytes s
     → Placed s (scope_of (fields_of s) (tables_of s) true) (use_at s) most_depth false (body_start s 0) (main_of s)
 unfolding policy_of entries bytes_of
 main_placed s z v small =

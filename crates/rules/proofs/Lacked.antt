@@ -1,4 +1,6 @@
 -- Positions that lack fields: a lacked field holds 0 and stays so, and so the order passes lacked fields over.
+use Rattle.std.specs.declared.cmp.Ordering.{Ordering}
+use Rattle.std.specs.declared.cmp.Ordering.TheVariants.{Less, Equal, Greater}
 use mathlib.Core.Path.{◌≡◌, refl, ap, ◌∙◌}
 use mathlib.Core.Bool.{Bool, true, false, cond}
 use mathlib.Core.List.{[], ◌∷◌}
@@ -6,8 +8,6 @@ use Prim.Native.Nat.{ℕ, suc, ◌+◌}
 use native.Mathlib.Nat.{add-zero, add-suc, suc-add, zero-add}
 use lib.Dec.{ltb}
 use lib.ListN.{get_or}
-use Rattle.rules.specs.declared.Order.{Order}
-use Rattle.rules.specs.declared.Order.TheVariants.{Less, Same, More}
 use Rattle.rules.specs.Masks.{has, less, Sub}
 use Rattle.rules.specs.Packets.{Packet, Packets, ◌∈◌, without, order_by, order_of}
 use Rattle.rules.specs.Parts.{Part, Formed}
@@ -38,14 +38,14 @@ bare_out p w r h m s z b k = let g = (meaning p w r s b).0 k in bare_gives p r h
 -- ---- the published order
 
 -- "fields that a position lacks are passed over": from field i on, those outside h
-abbrev pub order_from : ℕ → ℕ → Packet → Packet → Order
-order_from h i [] [] = Same
+abbrev pub order_from : ℕ → ℕ → Packet → Packet → Ordering
+order_from h i [] [] = Equal
 order_from h i [] (y ∷ b) = Less
-order_from h i (x ∷ a) [] = More
+order_from h i (x ∷ a) [] = Greater
 order_from h i (x ∷ a) (y ∷ b) =
     cond (has h i) (order_by (ltb x y) (ltb y x) (order_from h (suc i) a b)) (order_from h (suc i) a b)
 
-abbrev pub order_on : ℕ → Packet → Packet → Order
+abbrev pub order_on : ℕ → Packet → Packet → Ordering
 order_on h a b = order_from h 0 a b
 
 -- fields from i on
@@ -60,7 +60,7 @@ bare_head : (h i x : ℕ) (a : Packet) → BareFrom h i (x ∷ a) → has h i �
 unfolding BareFrom
 bare_head h i x a b e = b 0 (rw (add-zero i) e)
 
-passed_over : (c : Bool) (x y : ℕ) (o : Order) → (c ≡ false → x ≡ 0) → (c ≡ false → y ≡ 0)
+passed_over : (c : Bool) (x y : ℕ) (o : Ordering) → (c ≡ false → x ≡ 0) → (c ≡ false → y ≡ 0)
     → cond c (order_by (ltb x y) (ltb y x) o) o ≡ order_by (ltb x y) (ltb y x) o
 passed_over true x y o hx hy = refl
 passed_over false x y o hx hy = rw (hx refl, hy refl)
@@ -72,7 +72,7 @@ order_from_lem h i [] (y ∷ b) ha hb = refl
 order_from_lem h i (x ∷ a) [] ha hb = refl
 order_from_lem h i (x ∷ a) (y ∷ b) ha hb =
     passed_over (has h i) x y (order_from h (suc i) a b) (bare_head h i x a ha) (bare_head h i y b hb)
-    ∙ ap (λ (o : Order). order_by (ltb x y) (ltb y x) o) (order_from_lem h (suc i) a b (bare_tail h i x a ha) (bare_tail h i y b hb))
+    ∙ ap (λ (o : Ordering). order_by (ltb x y) (ltb y x) o) (order_from_lem h (suc i) a b (bare_tail h i x a ha) (bare_tail h i y b hb))
 
 -- where the lacked fields hold 0, passing them over changes nothing
 pub order_on_lem : (h : ℕ) (a b : Packet) → Bare h a → Bare h b → order_on h a b ≡ order_of a b

@@ -17,6 +17,7 @@ pub mod Lacked
 pub mod Below
 -- a book is accepted exactly if it is a right policy, written
 pub mod CheckLaws
+pub mod HandingUp
 pub mod ReadingLaws
 pub mod CodeLaws
 pub mod Decoding
@@ -54,5 +55,3 @@ pub mod Answering
 pub mod Numbers
 pub mod Runs
 pub mod Ends
--- for the proofs of the code above
-pub mod Cycles

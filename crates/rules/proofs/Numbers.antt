@@ -1,5 +1,6 @@
 -- The table of numbers, and which of them each call can give: 1 to 7 on a book, 8, 9, 10 and 12 besides for a packet, 11 besides
 -- for a run.
+use Rattle.std.specs.Prelude.{Err}
 use Prim.Native.Nat.{ℕ, ◌≤◌}
 use native.Mathlib.Omega.{arith}
 use mathlib.Core.Path.{◌≡◌, refl}
@@ -10,9 +11,7 @@ use lib.Dec.{lit≤}
 use Rattle.rules.specs.declared.Reason.TheVariants.{BookLength, Counts, Lengths, EntryMasks, Form, Limits, Typing}
 use Rattle.rules.specs.declared.Reason.TheVariants.{PacketLength, Unpopulated, TooWide, Positions, BufferLength, Stuck, Input}
 use Rattle.rules.specs.declared.Refusal.{Refusal}
-use Rattle.rules.specs.declared.Verdict.TheVariants.{Refused}
 use Rattle.rules.specs.declared.Outcome.{Outcome}
-use Rattle.rules.specs.declared.Evaluated.TheVariants.{NotGiven}
 use Rattle.rules.specs.Checks.{no_place, in_book, number_of}
 use Rattle.rules.specs.Reading.{form_checks, book_checks, verdict}
 use Rattle.rules.specs.Answers.{refusal, refusal_says, outcome, packet_checks, result_check, evaluate_checks, evaluated_by, evaluated}
@@ -36,10 +35,10 @@ book_refusals book =
     lit≤ tt also lit≤ tt also lit≤ tt also lit≤ tt also lit≤ tt also lit≤ tt also lit≤ tt also lit≤ tt also lit≤ tt also lit≤ tt
     also lit≤ tt also no_more
 
-pub book_numbers : (book : List ℕ) (r : Refusal) → verdict book ≡ Refused r → number_of r ≤ 7
+pub book_numbers : (book : List ℕ) (r : Refusal) → verdict book ≡ Err r → number_of r ≤ 7
 book_numbers book r e = of_failed (λ r. number_of r ≤ 7) (book_checks book) r (book_refusals book) (refused_checks book r e)
 
-not_given : (o : Option Refusal) (u : Outcome) (r : Refusal) → evaluated_by o u ≡ NotGiven r → o ≡ some r
+not_given : (o : Option Refusal) (u : Outcome) (r : Refusal) → evaluated_by o u ≡ Err r → o ≡ some r
 not_given none u r e = let n : ◌≡◌ {A = ℕ} 0 1 = cc in absurd (omega arith)
 not_given (some q) u r e = let same : q ≡ r = cc in rw same
 
@@ -50,7 +49,7 @@ packet_refusals : (book packet : List ℕ) (words : ℕ) → OfRefusals Evaluati
 unfolding packet_checks
 packet_refusals book packet words = inl (lit≤ tt) also inr refl also inl (lit≤ tt) also inl (lit≤ tt) also no_more
 
-pub evaluation_numbers : (book packet : List ℕ) (words : ℕ) (r : Refusal) → evaluated book packet words ≡ NotGiven r
+pub evaluation_numbers : (book packet : List ℕ) (words : ℕ) (r : Refusal) → evaluated book packet words ≡ Err r
     → (number_of r ≤ 10) ⊎ (number_of r ≡ 12)
 unfolding evaluated evaluate_checks
 evaluation_numbers book packet words r e =

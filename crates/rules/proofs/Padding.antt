@@ -1,4 +1,5 @@
 -- Packets of k words inside the layers: padded with zeros to all places they mean what they meant, in the same order.
+use Rattle.std.specs.declared.cmp.Ordering.{Ordering}
 use mathlib.Core.Path.{◌≡◌, refl, sym, ap, ◌∙◌, subst}
 use mathlib.Core.Logic.{◌≢◌, inl, inr, ⊎_elim, ◌↔◌}
 use mathlib.Core.List.{[], ◌∷◌, ◌++◌, map}
@@ -8,7 +9,6 @@ use native.Mathlib.Decide.{dec_lt}
 use lib.Dec.{ltb}
 use lib.ListN.{length, get_or, take, replicate, length-append, length-replicate}
 use lib.Seq.{take_at}
-use Rattle.rules.specs.declared.Order.{Order}
 use Rattle.rules.specs.Packets.{Packet, Packets, ◌∈◌, Before, Ascending, places, padded, passes, put, order_by, order_of}
 use Rattle.rules.specs.Parts.{Part, Id, Drop, Test, Set, Not, Sum, Seq, Beside, Table, Open, Formed}
 use Rattle.rules.specs.Typing.{Right}
@@ -52,7 +52,7 @@ unfolding order_of
 order_append [] [] z e = order_refl z
 order_append [] (y ∷ b) z e = absurd (omega arith)
 order_append (x ∷ a) [] z e = absurd (omega arith)
-order_append (x ∷ a) (y ∷ b) z e = ap (λ (o : Order). order_by (ltb x y) (ltb y x) o) (order_append a b z (omega arith))
+order_append (x ∷ a) (y ∷ b) z e = ap (λ (o : Ordering). order_by (ltb x y) (ltb y x) o) (order_append a b z (omega arith))
 
 pub order_padded : (a b : Packet) → length a ≡ length b → order_of (padded a) (padded b) ≡ order_of a b
 unfolding padded

@@ -1,5 +1,6 @@
 -- Each part that stands or waits at a position of a state that a run of an accepted book reaches is written in the book from its place
 -- on: a position's place is that of its part's code byte.
+use Rattle.std.specs.Prelude.{Ok}
 use Prim.Native.Nat.{ℕ, zero, suc, ◌+◌}
 use native.Mathlib.Omega.{arith}
 use native.Mathlib.Nat.{zero-add}
@@ -10,7 +11,6 @@ use mathlib.Core.Option.{Option, none, some}
 use lib.ListN.{length, get_or, drop}
 use lib.Seq.{drop-drop, drop-append_seam}
 use Rattle.rules.specs.declared.Sizes.{Sizes}
-use Rattle.rules.specs.declared.Verdict.TheVariants.{Accepted}
 use Rattle.rules.specs.Parts.{Part, Id, Drop, Test, Set, Not, Sum, Seq, Beside, Table, Open, write, size}
 use Rattle.rules.specs.Books.{most_depth, Entry, Policy, entries, bytes_of, write_book, first_body, start_in, use_of, no_entry, table_of}
 use Rattle.rules.specs.Books.{Scope, scope_of, no_use, Fine, OfBody, WellFormed, Bytes}
@@ -114,7 +114,7 @@ module _ (P : Policy) (w : WellFormed P) where
 
 -- ---- an accepted book
 
-pub in_place : (book packet schedule : List ℕ) (z : Sizes) → verdict book ≡ Accepted z → Bytes book
+pub in_place : (book packet schedule : List ℕ) (z : Sizes) → verdict book ≡ Ok z → Bytes book
     → Everywhere (InPlace book) (run (start book packet) schedule)
 unfolding start policy_of
 in_place book packet schedule z v small =

@@ -1,6 +1,6 @@
 -- Plain laws of the reader's definitions, each over numbers and lists alone.
-use Prim.Native.Nat.{ℕ, zero, suc, ◌+◌, ◌*◌, ◌^◌, ◌%◌, ◌<◌, ◌≤◌}
-use native.Mathlib.Nat.{one-mul, mod-eq_of_lt}
+use Rattle.std.specs.Prelude.{Err, Ok, Result, ℕ}
+use Prim.Native.Nat.{ℕ, zero, suc, ◌+◌, ◌<◌, ◌≤◌}
 use native.Mathlib.Omega.{arith}
 use native.Mathlib.Numerals.{add-one}
 use mathlib.Core.Path.{◌≡◌, refl, sym, ap, ◌∙◌}
@@ -12,10 +12,7 @@ use lib.ListN.{length, get_or, take, drop, drop_of_length-le, get_or-eq_default}
 use lib.Seq.{drop-cons, take-nil}
 use lib.Dec.{ltb, leb, lit≤}
 use Rattle.rules.specs.Codes.{operands_of, parts_of}
-use lib.Pow.{pow-lt}
 use borrow.Author.Tests.{ltb-true, leb-true, lt-ltb, le-ltb, le-leb, lt-leb, eq-eqb, ne_eqb}
-use Rattle.rules.specs.declared.Reading.{Reading}
-use Rattle.rules.specs.declared.Reading.TheVariants.{Next, Wrong}
 use Rattle.rules.specs.Books.{Scope, most_depth}
 use Rattle.rules.proofs.CodeLaws.{by_code}
 use Rattle.rules.specs.Reading.{and_then, byte_if, standing, stands, later, field_wrong, operands_wrong, judged, operands_at, read_operands}
@@ -23,15 +20,15 @@ use Rattle.rules.specs.Reading.{read_part, read_body, head, head_at}
 
 -- the three answers at a byte
 module _ (s : List ℕ) (ok : ℕ → Bool) (at : ℕ) where
-  pub byte_short : length s ≤ at → Wrong (length s) ≡ byte_if s ok at
+  pub byte_short : length s ≤ at → Err (length s) ≡ byte_if s ok at
   unfolding byte_if
   byte_short h = rw (le-ltb at (length s) h)
 
-  pub byte_wrong : at < length s → ok (get_or s at 0) ≡ false → Wrong at ≡ byte_if s ok at
+  pub byte_wrong : at < length s → ok (get_or s at 0) ≡ false → Err at ≡ byte_if s ok at
   unfolding byte_if
   byte_wrong h e = rw (lt-ltb at (length s) h, e)
 
-  pub byte_next : at < length s → ok (get_or s at 0) ≡ true → Next (at + 1) ≡ byte_if s ok at
+  pub byte_next : at < length s → ok (get_or s at 0) ≡ true → Ok (at + 1) ≡ byte_if s ok at
   unfolding byte_if
   byte_next h e = rw (lt-ltb at (length s) h, e)
 
@@ -82,34 +79,34 @@ none_later (some i) h = absurd (none-ne-some (suc i) (sym h))
 
 module _ (s : List ℕ) (k m code at : ℕ) where
   pub operands_next : at + 1 + operands_of code ≤ length s → operands_wrong k m code (operands_at s code at) ≡ none
-      → read_operands s k m code at ≡ Next (at + 1 + operands_of code)
+      → read_operands s k m code at ≡ Ok (at + 1 + operands_of code)
   unfolding read_operands
   operands_next h e = rw (e, le-leb (at + 1 + operands_of code) (length s) h)
 
   pub operands_cut : length s < at + 1 + operands_of code → operands_wrong k m code (operands_at s code at) ≡ none
-      → read_operands s k m code at ≡ Wrong (length s)
+      → read_operands s k m code at ≡ Err (length s)
   unfolding read_operands
   operands_cut h e = rw (e, lt-leb (at + 1 + operands_of code) (length s) h)
 
-  pub operands_wrong_lem : (i : ℕ) → operands_wrong k m code (operands_at s code at) ≡ some i → read_operands s k m code at ≡ Wrong (at + 1 + i)
+  pub operands_wrong_lem : (i : ℕ) → operands_wrong k m code (operands_at s code at) ≡ some i → read_operands s k m code at ≡ Err (at + 1 + i)
   unfolding read_operands
   operands_wrong_lem i e = rw e
 
   -- what is known once they are read
-  pub operands_were : (b : ℕ) → read_operands s k m code at ≡ Next b
+  pub operands_were : (b : ℕ) → read_operands s k m code at ≡ Ok b
       → (b ≡ at + 1 + operands_of code) × (at + 1 + operands_of code ≤ length s) × (operands_wrong k m code (operands_at s code at) ≡ none)
   unfolding read_operands
   operands_were b = go (operands_wrong k m code (operands_at s code at)) refl (leb (at + 1 + operands_of code) (length s)) refl
     where
       go : (o : Option ℕ) → operands_wrong k m code (operands_at s code at) ≡ o → (x : Bool) → leb (at + 1 + operands_of code) (length s) ≡ x
-          → judged s (operands_of code) (at + 1) o ≡ Next b
+          → judged s (operands_of code) (at + 1) o ≡ Ok b
           → (b ≡ at + 1 + operands_of code) × (at + 1 + operands_of code ≤ length s) × (operands_wrong k m code (operands_at s code at) ≡ none)
       go (some i) e x f q = let z : ◌≡◌ {A = ℕ} 0 1 = cc in absurd (omega arith)
       go none e true f q =
-          let n : Next (at + 1 + operands_of code) ≡ Next b = rw f at q in
+          let n : Ok (at + 1 + operands_of code) ≡ Ok b = rw f at q in
           (cc, leb-true (at + 1 + operands_of code) (length s) f, e)
       go none e false f q =
-          let n : Wrong (length s) ≡ Next b = rw f at q in
+          let n : Err (length s) ≡ Ok b = rw f at q in
           let z : ◌≡◌ {A = ℕ} 0 1 = cc in absurd (omega arith)
 
 -- of no operands none is wrong
@@ -117,11 +114,11 @@ pub empty_right : (k m code : ℕ) → operands_wrong k m code [] ≡ none
 unfolding operands_wrong
 empty_right k m = by_code (λ c. operands_wrong k m c [] ≡ none) refl refl refl refl refl refl refl refl refl (λ c. refl)
 
-pub operands_none : (s : List ℕ) (k m code at : ℕ) → operands_of code ≡ 0 → at < length s → read_operands s k m code at ≡ Next (at + 1)
+pub operands_none : (s : List ℕ) (k m code at : ℕ) → operands_of code ≡ 0 → at < length s → read_operands s k m code at ≡ Ok (at + 1)
 operands_none s k m code at z h =
     let e : at + 1 + operands_of code ≡ at + 1 = omega arith in
     let n : operands_wrong k m code (operands_at s code at) ≡ none = rw z (empty_right k m code) in
-    operands_next s k m code at (omega arith) n ∙ ap (λ (x : ℕ). Next x) e
+    operands_next s k m code at (omega arith) n ∙ ap (λ (x : ℕ). Ok x) e
 
 -- what the operands of a test, a set and a use of a table are known to be
 module _ (s : List ℕ) (k m at e : ℕ) where
@@ -130,7 +127,7 @@ module _ (s : List ℕ) (k m at e : ℕ) where
       let there : take 3 (drop (at + 1) s) ≡ (head s at).field ∷ take 2 (drop (at + 1 + 1) s) = some_there s 2 (at + 1) (omega arith) in
       ltb-true (head s at).field k (none_wrong _ _ (rw there at w)).0
 
-  pub field_known : (code : ℕ) → 2 ≤ code → code < 4 → read_operands s k m code at ≡ Next e → (head s at).field < k
+  pub field_known : (code : ℕ) → 2 ≤ code → code < 4 → read_operands s k m code at ≡ Ok e → (head s at).field < k
   unfolding operands_wrong
   field_known code h l q =
       let w = operands_were s k m code at e q in
@@ -145,7 +142,7 @@ module _ (s : List ℕ) (k m at e : ℕ) where
           (λ a b x y. absurd (omega arith)) (λ a b x y. absurd (omega arith)) (λ a b x y. absurd (omega arith))
           (λ a b x y. absurd (omega arith)) (λ a b x y. absurd (omega arith)) (λ c a b x y. absurd (omega arith))
 
-  pub use_known : read_operands s k m 8 at ≡ Next e → (0 < (head s at).table) × ((head s at).table ≤ m)
+  pub use_known : read_operands s k m 8 at ≡ Ok e → (0 < (head s at).table) × ((head s at).table ≤ m)
   unfolding operands_wrong
   use_known q =
       let w = operands_were s k m 8 at e q in
@@ -153,9 +150,6 @@ module _ (s : List ℕ) (k m at e : ℕ) where
       let there : operands_at s 8 at ≡ x ∷ take 0 (drop (at + 1 + 1) s) = some_there s 0 (at + 1) (omega (arith, w.1)) in
       let v = and_was (ltb 0 x) (leb x m) (none_wrong _ _ (rw there at w.2)).0 in
       (ltb-true 0 x v.0, leb-true x m v.1)
-
-pub bit_is : (k : ℕ) → k < 8 → 1 * 2 ^ k % 256 ≡ 2 ^ k
-bit_is k h = rw one-mul (mod-eq_of_lt (pow-lt h))
 
 pub stands_37 : (t p : Bool) (x : ℕ) → (x ≡ 3) ⊎ (x ≡ 7) → stands t p x ≡ not p
 unfolding stands
@@ -166,21 +160,21 @@ unfolding stands
 stands_8 t p x e = rw e
 
 -- what stands after a byte that was read
-pub byte_was : (s : List ℕ) (ok : ℕ → Bool) (at a : ℕ) → byte_if s ok at ≡ Next a
+pub byte_was : (s : List ℕ) (ok : ℕ → Bool) (at a : ℕ) → byte_if s ok at ≡ Ok a
     → (at < length s) × (ok (get_or s at 0) ≡ true) × (a ≡ at + 1)
 unfolding byte_if
 byte_was s ok at a = go (ltb at (length s)) refl (ok (get_or s at 0)) refl
   where
     go : (x : Bool) → ltb at (length s) ≡ x → (y : Bool) → ok (get_or s at 0) ≡ y
-        → cond x (cond y (Next (at + 1)) (Wrong at)) (Wrong (length s)) ≡ Next a
+        → cond x (cond y (Ok (at + 1)) (Err at)) (Err (length s)) ≡ Ok a
         → (at < length s) × (ok (get_or s at 0) ≡ true) × (a ≡ at + 1)
     go true e true f q = (ltb-true at (length s) e, f, cc)
     go true e false f q = let z : ◌≡◌ {A = ℕ} 0 1 = cc in absurd (omega arith)
     go false e y f q = let z : ◌≡◌ {A = ℕ} 0 1 = cc in absurd (omega arith)
 
-pub then_next : (x : Reading) → and_then x (λ a. Next a) ≡ x
-then_next (Next a) = refl
-then_next (Wrong a) = refl
+pub then_next : (x : Result ℕ ℕ) → and_then x (λ a. Ok a) ≡ x
+then_next (Ok a) = refl
+then_next (Err a) = refl
 
 -- no code has more operands or parts
 pub row_small : (c : ℕ) → (operands_of c ≤ 3) × (parts_of c ≤ 2)
@@ -200,28 +194,28 @@ parts_small c = (row_small c).1
 
 -- one part, by the depth that is left
 module _ (s : List ℕ) (c : Scope) (d : ℕ) (pred : Bool) (at : ℕ) where
-  pub part_wrong : (r : ℕ) → byte_if s (stands c.main pred) at ≡ Wrong r → read_part s c d pred at ≡ Wrong r
+  pub part_wrong : (r : ℕ) → byte_if s (stands c.main pred) at ≡ Err r → read_part s c d pred at ≡ Err r
   unfolding read_part
   part_wrong r = go d
     where
-      go : (d : ℕ) → byte_if s (stands c.main pred) at ≡ Wrong r → read_part s c d pred at ≡ Wrong r
+      go : (d : ℕ) → byte_if s (stands c.main pred) at ≡ Err r → read_part s c d pred at ≡ Err r
       go zero e = rw e
       go (suc d) e = rw e
 
-  pub part_deep : (a : ℕ) → byte_if s (stands c.main pred) at ≡ Next a → d ≡ 0 → read_part s c d pred at ≡ Wrong at
+  pub part_deep : (a : ℕ) → byte_if s (stands c.main pred) at ≡ Ok a → d ≡ 0 → read_part s c d pred at ≡ Err at
   unfolding read_part
   part_deep a e z = rw (z, e)
 
 -- a whole body
 module _ (s : List ℕ) (c : Scope) (start : ℕ) where
-  pub body_wrong : (r : ℕ) → read_part s c most_depth false start ≡ Wrong r → read_body s c start ≡ Wrong r
+  pub body_wrong : (r : ℕ) → read_part s c most_depth false start ≡ Err r → read_body s c start ≡ Err r
   unfolding read_body
   body_wrong r e = rw e
 
-  pub body_whole : (a : ℕ) → read_part s c most_depth false start ≡ Next a → a ≡ length s → read_body s c start ≡ Next a
+  pub body_whole : (a : ℕ) → read_part s c most_depth false start ≡ Ok a → a ≡ length s → read_body s c start ≡ Ok a
   unfolding read_body
   body_whole a e q = rw (e, eq-eqb a (length s) q)
 
-  pub body_rest : (a : ℕ) → read_part s c most_depth false start ≡ Next a → (a ≡ length s → ⊥) → read_body s c start ≡ Wrong a
+  pub body_rest : (a : ℕ) → read_part s c most_depth false start ≡ Ok a → (a ≡ length s → ⊥) → read_body s c start ≡ Err a
   unfolding read_body
   body_rest a e q = rw (e, ne_eqb a (length s) q)

@@ -1,5 +1,6 @@
 -- When each of the numbers 1 to 7 is given: one law for each, under what the numbers before it have tested ("Order: 1 to 7"). With
 -- `passed_is` these are all cases, so each number is given exactly if its rule is the first that is broken.
+use Rattle.std.specs.Prelude.{Err, Result, ℕ}
 use Prim.Native.Nat.{ℕ, suc, ◌≤◌}
 use mathlib.Core.Path.{◌≡◌, refl, ap, ◌∙◌}
 use mathlib.Core.Bool.{Bool, true, false}
@@ -8,11 +9,8 @@ use mathlib.Core.Option.{some}
 use lib.Dec.{leb, eqb}
 use lib.ListN.{length}
 use borrow.Author.Tests.{leb-true, le-leb, eq-eqb, ne_eqb}
-use Rattle.rules.specs.declared.Reading.{Reading}
-use Rattle.rules.specs.declared.Reading.TheVariants.{Wrong}
 use Rattle.rules.specs.declared.Reason.{Reason}
 use Rattle.rules.specs.declared.Reason.TheVariants.{BookLength, Counts, Lengths, EntryMasks, Form, Limits, Typing}
-use Rattle.rules.specs.declared.Verdict.TheVariants.{Refused}
 use Rattle.rules.specs.Parts.{parts, deep}
 use Rattle.rules.specs.Books.{most_fields, most_tables, most_bytes, most_parts, most_beside}
 use Rattle.rules.specs.Checks.{no_place, in_book, Check, check, check_at, first_failed}
@@ -62,14 +60,14 @@ module _ (s : List ℕ) where
   counts_hold k h =
       le-leb 1 (fields_of s) k.0 & le-leb (fields_of s) most_fields k.1 & le-leb (tables_of s) most_tables k.2 & h
 
-  pub refused_length : (LengthKept s → ⊥) → verdict s ≡ Refused (no_place BookLength)
+  pub refused_length : (LengthKept s → ⊥) → verdict s ≡ Err (no_place BookLength)
   unfolding book_checks form_checks
   refused_length h =
       checks_refused s _ (failed_before length_rows _ _ (either_fails (leb 2 (length s)) (leb (length s) most_bytes) BookLength []
       (λ k. h (leb-true 2 (length s) k.0, leb-true (length s) most_bytes k.1))))
 
   module _ (long : LengthKept s) where
-    pub refused_counts : (CountsKept s → ⊥) → verdict s ≡ Refused (no_place Counts)
+    pub refused_counts : (CountsKept s → ⊥) → verdict s ≡ Err (no_place Counts)
     unfolding book_checks form_checks
     refused_counts h =
         checks_refused s _ (group_failed length_rows count_rows _ _ (lengths_hold long end)
@@ -77,7 +75,7 @@ module _ (s : List ℕ) where
         (λ k. h (leb-true 1 (fields_of s) k.0, leb-true (fields_of s) most_fields k.1, leb-true (tables_of s) most_tables k.2))))
 
     module _ (counts : CountsKept s) where
-      pub refused_lengths : (body_start s (suc (tables_of s)) ≡ length s → ⊥) → verdict s ≡ Refused (no_place Lengths)
+      pub refused_lengths : (body_start s (suc (tables_of s)) ≡ length s → ⊥) → verdict s ≡ Err (no_place Lengths)
       unfolding book_checks form_checks
       refused_lengths h =
           checks_refused s _ (first_failed_lem (length_rows ++ count_rows) _ _ (lengths_hold long (counts_hold counts end))
@@ -87,20 +85,20 @@ module _ (s : List ℕ) where
         same_length : eqb (body_start s (suc (tables_of s))) (length s) ≡ true
         same_length = eq-eqb (body_start s (suc (tables_of s))) (length s) lengths
 
-        pub refused_masks : masks_right s (suc (tables_of s)) 0 ≡ false → verdict s ≡ Refused (no_place EntryMasks)
+        pub refused_masks : masks_right s (suc (tables_of s)) 0 ≡ false → verdict s ≡ Err (no_place EntryMasks)
         unfolding book_checks form_checks
         refused_masks h =
             checks_refused s _ (first_failed_lem (length_rows ++ (count_rows ++ (check _ Lengths ∷ []))) _ _
             (lengths_hold long (counts_hold counts (same_length & end))) h)
 
-        pub refused_form : masks_right s (suc (tables_of s)) 0 ≡ true → (at : ℕ) → read_entries s (suc (tables_of s)) 0 ≡ Wrong at
-            → verdict s ≡ Refused (in_book Form at)
+        pub refused_form : masks_right s (suc (tables_of s)) 0 ≡ true → (at : ℕ) → read_entries s (suc (tables_of s)) 0 ≡ Err at
+            → verdict s ≡ Err (in_book Form at)
         unfolding book_checks form_checks
         refused_form masks at h =
             checks_refused s _
             (first_failed_lem (length_rows ++ (count_rows ++ (check _ Lengths ∷ check _ EntryMasks ∷ []))) _ _
             (lengths_hold long (counts_hold counts (same_length & masks & end))) (ap goes_on h)
-            ∙ ap (λ (x : Reading). some (in_book Form (stops_at x))) h)
+            ∙ ap (λ (x : Result ℕ ℕ). some (in_book Form (stops_at x))) h)
 
   module _ (readable : Readable s) where
     -- past 1 to 5, which 6 and 7 leave
@@ -119,7 +117,7 @@ module _ (s : List ℕ) where
         (counts_hold (readable.fields.0, readable.fields.1, readable.tables)
         (eq-eqb (body_start s (suc (tables_of s))) (length s) readable.lengths & readable.masks & ap goes_on readable.form.1 & h))
 
-    pub refused_limits : (LimitsKept s → ⊥) → verdict s ≡ Refused (no_place Limits)
+    pub refused_limits : (LimitsKept s → ⊥) → verdict s ≡ Err (no_place Limits)
     unfolding book_checks form_checks
     refused_limits h =
         checks_refused s _ (group_failed form_rows (check _ Limits ∷ check _ Limits ∷ []) _ _ (form_holds end)
@@ -127,7 +125,7 @@ module _ (s : List ℕ) where
         (λ k. h (leb-true (parts (main_of s)) most_parts k.0, leb-true (deep (main_of s)) most_beside k.1))))
 
     -- the place of 7 is the first of the faults: the concurrent parts that are not right, then the bodies that do not fit
-    pub refused_typing : LimitsKept s → (at : ℕ) (l : List ℕ) → typing_faults (policy_of s) ≡ at ∷ l → verdict s ≡ Refused (in_book Typing at)
+    pub refused_typing : LimitsKept s → (at : ℕ) (l : List ℕ) → typing_faults (policy_of s) ≡ at ∷ l → verdict s ≡ Err (in_book Typing at)
     unfolding book_checks form_checks
     refused_typing limits at l h =
         checks_refused s _

@@ -1,4 +1,6 @@
 -- The answer of a run under every schedule: one number N, finished with the evaluator's packets or unfinished with a step ready.
+use Rattle.std.specs.Prelude.{Ok, Result}
+use Rattle.rules.specs.declared.Refusal.{Refusal}
 use Prim.Native.Nat.{ℕ, ◌*◌, ◌≤◌, ◌<◌}
 use native.Mathlib.Omega.{arith}
 use mathlib.Core.Path.{◌≡◌, ◌∙◌}
@@ -24,8 +26,8 @@ progress book packet schedule =
     let t = run (start book packet) schedule in Running (record { steps = length schedule; live = live t; ready = ready t })
 
 -- at least N choices finish
-pub at_finish : {book packet schedule : List ℕ} {a : Ran} → Stops book packet schedule a → steps_of book packet ≤ length schedule
-    → a ≡ Finished (record { steps = steps_of book packet; count = length (given book packet) })
+pub at_finish : {book packet schedule : List ℕ} {a : Result Ran Refusal} → Stops book packet schedule a → steps_of book packet ≤ length schedule
+    → a ≡ Ok (Finished (record { steps = steps_of book packet; count = length (given book packet) }))
 at_finish (finishes h e) l = e
 at_finish (goes_on h n m k r e) l = absurd (omega arith)
 
@@ -34,7 +36,7 @@ module _ (book packet schedule : List ℕ) (words area : ℕ) (admitted : Admitt
     (tests : Sub (tested (main_of book)) (all_fields (fields_of book)))
     (writes : Sub (written (main_of book)) (all_fields (fields_of book))) where
   -- no step is stuck: the run stops where its schedule ends or it is finished
-  pub ran_stopped : ran book packet schedule words area ≡ stop_of book packet schedule
+  pub ran_stopped : ran book packet schedule words area ≡ Ok (stop_of book packet schedule)
   unfolding start
   ran_stopped =
       ran_admitted book packet schedule words area fit wide admitted
@@ -50,13 +52,13 @@ module _ (book packet schedule : List ℕ) (words area : ℕ) (admitted : Admitt
 
   -- fewer than N choices: a step for each, and a step ready in the state reached
   by_short : Ending (start_spot book) (main_of book) (start_set packet) schedule → length schedule < steps_of book packet
-      → (ran book packet schedule words area ≡ progress book packet schedule) × (0 < ready (run (start book packet) schedule))
+      → (ran book packet schedule words area ≡ Ok (progress book packet schedule)) × (0 < ready (run (start book packet) schedule))
   unfolding start finish
   by_short (short h e r n) l = (ran_stopped ∙ rw (e, n), r)
   by_short (enough h e n) l = absurd (omega arith)
 
   pub runs_on : length schedule < steps_of book packet
-      → (ran book packet schedule words area ≡ progress book packet schedule) × (0 < ready (run (start book packet) schedule))
+      → (ran book packet schedule words area ≡ Ok (progress book packet schedule)) × (0 < ready (run (start book packet) schedule))
   runs_on = by_short (ending (start_spot book) (main_of book) (start_set packet) schedule)
 
   pub stops : Stops book packet schedule (ran book packet schedule words area)

@@ -1,4 +1,6 @@
 -- Sets of packets: the members of each operation, that it ascends, that members fix an ascending list, and lengths.
+use Rattle.std.specs.declared.cmp.Ordering.{Ordering}
+use Rattle.std.specs.declared.cmp.Ordering.TheVariants.{Less, Equal, Greater}
 use Prim.Native.Nat.{ℕ, suc, ◌+◌, ◌≤◌}
 use mathlib.Core.Path.{◌≡◌, refl, sym, ap, ap₂, ◌∙◌, subst}
 use mathlib.Core.Logic.{◌⊎◌, inl, inr, ⊎_elim, ◌↔◌}
@@ -6,8 +8,6 @@ use mathlib.Core.Bool.{Bool, true, false, not, ◌||◌, false≢true}
 use mathlib.Core.List.{[], ◌∷◌, map}
 use native.Mathlib.Omega.{arith}
 use lib.ListN.{length}
-use Rattle.rules.specs.declared.Order.{Order}
-use Rattle.rules.specs.declared.Order.TheVariants.{Less, Same, More}
 use Rattle.rules.specs.Packets.{Packet, Packets, mix, order_of, Before, AllAfter, Ascending, ◌∈◌, put_by, insert, union}
 use Rattle.rules.specs.Packets.{cons_if, keep, is_same, member, lacks, gathered, pairs_into, pairs}
 use Rattle.rules.proofs.Putting.{put_out, put_in}
@@ -120,10 +120,10 @@ pairs_in w b x y s t h k e = pairs_into_in w b x y [] s t h k e
 
 -- ---- member tells whether a packet is in a set
 
-same_out : (o : Order) (b x : Packet) (c : Bool) → order_of b x ≡ o → (is_same o || c) ≡ true → (b ≡ x) ⊎ (c ≡ true)
+same_out : (o : Ordering) (b x : Packet) (c : Bool) → order_of b x ≡ o → (is_same o || c) ≡ true → (b ≡ x) ⊎ (c ≡ true)
 same_out Less b x c e h = inr h
-same_out Same b x c e h = inl (order_same b x e)
-same_out More b x c e h = inr h
+same_out Equal b x c e h = inl (order_same b x e)
+same_out Greater b x c e h = inr h
 
 or_true : (c d : Bool) → d ≡ true → (c || d) ≡ true
 or_true true d h = refl
@@ -182,10 +182,10 @@ unfolding insert
 insert_ascending x [] h = (tt, tt)
 insert_ascending x (y ∷ s) h = go (order_of x y) refl (insert_ascending x s h.1)
   where
-    go : (o : Order) → order_of x y ≡ o → Ascending (insert x s) → Ascending (put_by o x y s (insert x s))
+    go : (o : Ordering) → order_of x y ≡ o → Ascending (insert x s) → Ascending (put_by o x y s (insert x s))
     go Less e k = ((e, after_trans x y s e h.0), h)
-    go Same e k = h
-    go More e k = (after_insert y x s (order_turned x y More e) h.0, k)
+    go Equal e k = h
+    go Greater e k = (after_insert y x s (order_turned x y Greater e) h.0, k)
 
 pub union_ascending : (s t : Packets) → Ascending s → Ascending (union s t)
 unfolding union
@@ -258,15 +258,15 @@ gathered_same (x ∷ s) h = union_after x [] s h.0 ∙ ap (λ (r : Packets). x �
 
 -- ---- lengths
 
-put_le : (o : Order) (x y : Packet) (s r : Packets) → length s ≤ length r → length (y ∷ s) ≤ length (put_by o x y s r)
+put_le : (o : Ordering) (x y : Packet) (s r : Packets) → length s ≤ length r → length (y ∷ s) ≤ length (put_by o x y s r)
 put_le Less x y s r h = omega arith
-put_le Same x y s r h = omega arith
-put_le More x y s r h = omega arith
+put_le Equal x y s r h = omega arith
+put_le Greater x y s r h = omega arith
 
-put_more : (o : Order) (x y : Packet) (s r : Packets) → length r ≤ length s + 1 → length (put_by o x y s r) ≤ length (y ∷ s) + 1
+put_more : (o : Ordering) (x y : Packet) (s r : Packets) → length r ≤ length s + 1 → length (put_by o x y s r) ≤ length (y ∷ s) + 1
 put_more Less x y s r h = omega arith
-put_more Same x y s r h = omega arith
-put_more More x y s r h = omega arith
+put_more Equal x y s r h = omega arith
+put_more Greater x y s r h = omega arith
 
 pub length_insert_le : (x : Packet) (s : Packets) → length s ≤ length (insert x s)
 unfolding insert

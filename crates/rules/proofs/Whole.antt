@@ -1,5 +1,6 @@
 -- The book level of acceptance: bytes that pass the tests 1 to 5 are the well-formed policy that they decode to, written (`whole_read`);
 -- and a well-formed policy, written, passes them and decodes to itself (`whole_reads`).
+use Rattle.std.specs.Prelude.{Ok}
 use Prim.Native.Nat.{ℕ, zero, suc, ◌+◌, ◌<◌, ◌≤◌}
 use native.Mathlib.Omega.{arith}
 use native.Mathlib.Nat.{zero-add}
@@ -10,7 +11,6 @@ use mathlib.Core.Option.{Option, none, some}
 use lib.Dec.{eqb}
 use lib.ListN.{length, get_or, drop, take}
 use borrow.Author.Tests.{eq-eqb, ne_eqb, eqb-true}
-use Rattle.rules.specs.declared.Reading.TheVariants.{Next}
 use Rattle.rules.specs.Parts.{Part, Id, Drop, Test, Set, Not, Sum, Seq, Beside, Table, Open, size}
 use Rattle.rules.specs.Books.{most_fields, most_tables, most_bytes, most_depth, Entry, Policy, entries, bytes_of, Bytes}
 use Rattle.rules.specs.Books.{write_book, first_body, start_in, use_of, no_entry, table_of, Scope, scope_of, no_use, Fine}
@@ -29,7 +29,7 @@ pub record Readable (s : List ℕ) : Type 0 where
   pub tables : tables_of s ≤ most_tables
   pub lengths : body_start s (suc (tables_of s)) ≡ length s
   pub masks : masks_right s (suc (tables_of s)) 0 ≡ true
-  pub form : (a : ℕ) × (read_entries s (suc (tables_of s)) 0 ≡ Next a)
+  pub form : (a : ℕ) × (read_entries s (suc (tables_of s)) 0 ≡ Ok a)
 
 -- ---- what a use stands for
 
@@ -131,7 +131,7 @@ module _ (s : List ℕ) (small : Bytes s) where
       → TableRead x (table_at s x)
   table_as x b e h = rw e h
 
-  table_read : (x a : ℕ) → read_entry s (suc x) ≡ Next a → body_start s (suc (suc x)) ≤ length s → TableRead (suc x) (table_at s (suc x))
+  table_read : (x a : ℕ) → read_entry s (suc x) ≡ Ok a → body_start s (suc (suc x)) ≤ length s → TableRead (suc x) (table_at s (suc x))
   unfolding read_entry body_at bytes_of body_start
   table_read x a q le = go (eqb (length_at s (suc x)) 0) refl q
     where
@@ -145,7 +145,7 @@ module _ (s : List ℕ) (small : Bytes s) where
       next = body_start s (suc (suc x))
 
       go : (t : Bool) → eqb (length_at s (suc x)) 0 ≡ t
-          → cond t (Next (body_start s (suc x))) (read_body (take next s) c (body_start s (suc x))) ≡ Next a
+          → cond t (Ok (body_start s (suc x))) (read_body (take next s) c (body_start s (suc x))) ≡ Ok a
           → TableRead (suc x) (table_at s (suc x))
       go true e q =
           let z : length_at s (suc x) ≡ 0 = eqb-true (length_at s (suc x)) 0 e in
@@ -157,7 +157,7 @@ module _ (s : List ℕ) (small : Bytes s) where
           table_as (suc x) (some p) (rw e)
           (record { reads = refl; writes = refl; size = omega (arith, w.1); bytes = w.2 }, w.3)
 
-  tables_read : (n x a : ℕ) → read_entries s n (suc x) ≡ Next a → body_start s (suc x + n) ≤ length s
+  tables_read : (n x a : ℕ) → read_entries s n (suc x) ≡ Ok a → body_start s (suc x + n) ≤ length s
       → AllThere s (suc x) (tables_from s n (suc x)) × FineBodies s (tables_from s n (suc x))
   unfolding read_entries tables_from
   tables_read zero x a q le = (tt, tt)
@@ -172,7 +172,7 @@ module _ (s : List ℕ) (small : Bytes s) where
   abbrev main_at : Entry
   main_at = record { reads = reads_at s 0; writes = writes_at s 0; body = some (main_of s) }
 
-  main_read : (a : ℕ) → read_entry s 0 ≡ Next a → body_start s 1 ≤ length s
+  main_read : (a : ℕ) → read_entry s 0 ≡ Ok a → body_start s 1 ≤ length s
       → EntryThere s 0 main_at × Fine (scope_of (fields_of s) (tables_of s) true) (use_at s) most_depth false (main_of s)
   unfolding read_entry bytes_of body_start main_of
   main_read a q le =
@@ -223,7 +223,7 @@ module _ (s : List ℕ) (small : Bytes s) where
 
 module _ (s : List ℕ) where
   table_reads : (x : ℕ) (e : Entry) → EntryThere s (suc x) e → OfBody (FineBody (fields_of s) (tables_of s)) e.body
-      → (table_at s (suc x) ≡ e) × ((a : ℕ) × (read_entry s (suc x) ≡ Next a))
+      → (table_at s (suc x) ≡ e) × ((a : ℕ) × (read_entry s (suc x) ≡ Ok a))
   unfolding read_entry body_at bytes_of body_start
   table_reads x e h f = let w = go e.body h.size h.bytes f in (rw (h.reads, h.writes, w.0), w.1)
     where
@@ -234,7 +234,7 @@ module _ (s : List ℕ) where
       start = body_start s (suc x)
 
       go : (b : Option Part) → length_at s (suc x) ≡ length (bytes_of b) → drop start s ≡ bytes_of b ++ drop (body_start s (suc (suc x))) s
-          → OfBody (FineBody (fields_of s) (tables_of s)) b → (body_at s (suc x) ≡ b) × ((a : ℕ) × (read_entry s (suc x) ≡ Next a))
+          → OfBody (FineBody (fields_of s) (tables_of s)) b → (body_at s (suc x) ≡ b) × ((a : ℕ) × (read_entry s (suc x) ≡ Ok a))
       go none n w f = let z = eq-eqb (length_at s (suc x)) 0 n in (rw z, (start, rw z))
       go (some p) n w f =
           let z = ne_eqb (length_at s (suc x)) 0 (λ e. omega (arith, size_positive p)) in
@@ -243,7 +243,7 @@ module _ (s : List ℕ) where
           (rw (z, r.1), (body_start s (suc (suc x)), rw z r.0))
 
   tables_reads : (es : List Entry) (x : ℕ) → AllThere s (suc x) es → FineBodies s es
-      → (tables_from s (length es) (suc x) ≡ es) × (read_entries s (length es) (suc x) ≡ Next (length s))
+      → (tables_from s (length es) (suc x) ≡ es) × (read_entries s (length es) (suc x) ≡ Ok (length s))
   unfolding read_entries tables_from
   tables_reads [] x h f = (refl, refl)
   tables_reads (e ∷ es) x h f =
@@ -254,7 +254,7 @@ module _ (s : List ℕ) where
 module _ (P : Policy) (w : WellFormed P) where
   -- of any bytes in which the policy's entries stand
   stand_reads : (s : List ℕ) → fields_of s ≡ P.fields → tables_of s ≡ length P.tables → AllThere s 0 (entries P)
-      → (policy_of s ≡ P) × (masks_right s (suc (tables_of s)) 0 ≡ true) × (read_entries s (suc (tables_of s)) 0 ≡ Next (length s))
+      → (policy_of s ≡ P) × (masks_right s (suc (tables_of s)) 0 ≡ true) × (read_entries s (suc (tables_of s)) 0 ≡ Ok (length s))
   unfolding policy_of entries read_entries read_entry main_of bytes_of body_start
   stand_reads s k m h =
       let c : Scope = scope_of (fields_of s) (tables_of s) true in

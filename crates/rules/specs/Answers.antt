@@ -1,16 +1,13 @@
 -- The answers of the evaluator and of a run, what every lent word is afterwards, and each answer's number, place and values
 -- (document 01, "Numbers that turn a call away").
-use Rattle.std.specs.Prelude.{ℕ, ◌*◌, not, List, [], ◌∷◌, ◌++◌, leb, eqb, length, drop, replicate}
+use Rattle.std.specs.Prelude.{ℕ, ◌*◌, not, List, [], ◌∷◌, ◌++◌, leb, eqb, length, drop, replicate, Err, Ok, Result}
 use Rattle.std.proofs.Math.Option.{Option, none, some}
+use Rattle.rules.specs.declared.Sizes.{Sizes}
 use Rattle.rules.specs.declared.Reason.TheVariants.{PacketLength, Unpopulated, TooWide, Positions, BufferLength, Stuck}
 use Rattle.rules.specs.declared.Refusal.{Refusal}
-use Rattle.rules.specs.declared.Verdict.{Verdict}
-use Rattle.rules.specs.declared.Verdict.TheVariants.{Accepted, Refused}
 use Rattle.rules.specs.declared.Outcome.{Outcome}
-use Rattle.rules.specs.declared.Evaluated.{Evaluated}
-use Rattle.rules.specs.declared.Evaluated.TheVariants.{Given, NotGiven}
 use Rattle.rules.specs.declared.Ran.{Ran}
-use Rattle.rules.specs.declared.Ran.TheVariants.{Finished, Running, NotRun}
+use Rattle.rules.specs.declared.Ran.TheVariants.{Finished, Running}
 use Rattle.rules.specs.Masks.{all_fields}
 use Rattle.rules.specs.Packets.{Packets, most_packets, padded, values_of}
 use Rattle.rules.specs.Parts.{parts, deep, names_open}
@@ -30,18 +27,18 @@ pub data Says : Type 0 where
 unfoldable pub refusal_says : Refusal → Says
 refusal_says r = refusal (number_of r) r.place
 
-unfoldable pub verdict_says : Verdict → Says
-verdict_says (Accepted z) = accepted z.fields z.tables z.parts z.deep
-verdict_says (Refused r) = refusal_says r
+unfoldable pub verdict_says : Result Sizes Refusal → Says
+verdict_says (Ok z) = accepted z.fields z.tables z.parts z.deep
+verdict_says (Err r) = refusal_says r
 
-unfoldable pub evaluated_says : Evaluated → Says
-evaluated_says (Given o) = packets o.count o.steps o.parts o.deep o.room
-evaluated_says (NotGiven r) = refusal_says r
+unfoldable pub evaluated_says : Result Outcome Refusal → Says
+evaluated_says (Ok o) = packets o.count o.steps o.parts o.deep o.room
+evaluated_says (Err r) = refusal_says r
 
-unfoldable pub ran_says : Ran → Says
-ran_says (Finished f) = finished f.steps f.count
-ran_says (Running p) = running p.steps p.live p.ready
-ran_says (NotRun r) = refusal_says r
+unfoldable pub ran_says : Result Ran Refusal → Says
+ran_says (Ok (Finished f)) = finished f.steps f.count
+ran_says (Ok (Running p)) = running p.steps p.live p.ready
+ran_says (Err r) = refusal_says r
 
 -- ---- the evaluator: 1 to 7, then 8, 12, 9, 10
 
@@ -83,21 +80,21 @@ result_check book words = check (leb (most_packets * fields_of book) words) Buff
 unfoldable pub evaluate_checks : List ℕ → List ℕ → ℕ → List Check
 evaluate_checks book packet words = book_checks book ++ packet_checks book packet (result_check book words ∷ [])
 
-abbrev pub evaluated_by : Option Refusal → Outcome → Evaluated
-evaluated_by none o = Given o
-evaluated_by (some r) o = NotGiven r
+abbrev pub evaluated_by : Option Refusal → Outcome → Result Outcome Refusal
+evaluated_by none o = Ok o
+evaluated_by (some r) o = Err r
 
 -- the answer to a book's bytes, a packet's words and a result buffer of so many words
-unfoldable pub evaluated : List ℕ → List ℕ → ℕ → Evaluated
+unfoldable pub evaluated : List ℕ → List ℕ → ℕ → Result Outcome Refusal
 evaluated book packet words = evaluated_by (first_failed (evaluate_checks book packet words)) (outcome book packet)
 
 -- "the packets in the first c·k words of the result, other words kept"
 unfoldable pub overwritten : List ℕ → List ℕ → List ℕ
 overwritten words buffer = words ++ drop (length words) buffer
 
-abbrev pub result_if : Evaluated → List ℕ → List ℕ → List ℕ
-result_if (Given o) words result = overwritten words result
-result_if (NotGiven r) words result = result
+abbrev pub result_if : Result Outcome Refusal → List ℕ → List ℕ → List ℕ
+result_if (Ok o) words result = overwritten words result
+result_if (Err r) words result = result
 
 unfoldable pub evaluated_result : List ℕ → List ℕ → List ℕ → List ℕ
 evaluated_result book packet result =
@@ -124,9 +121,9 @@ run_checks book packet schedule words area =
     ∷ check_at (no_fault (stuck_in (start book packet) schedule)) Stuck (first_of (stuck_in (start book packet) schedule))
     ∷ []))
 
-abbrev pub ran_by : Option Refusal → Ran → Ran
-ran_by none a = a
-ran_by (some r) a = NotRun r
+abbrev pub ran_by : Option Refusal → Ran → Result Ran Refusal
+ran_by none a = Ok a
+ran_by (some r) a = Err r
 
 -- where a run of an admitted book stops
 abbrev pub stop_of : List ℕ → List ℕ → List ℕ → Ran
@@ -135,17 +132,17 @@ stop_of book packet schedule =
     stopped (made t schedule) (run t schedule) (finish (run t schedule))
 
 -- the answer to a book, a packet, a schedule, and buffers of so many words
-unfoldable pub ran : List ℕ → List ℕ → List ℕ → ℕ → ℕ → Ran
+unfoldable pub ran : List ℕ → List ℕ → List ℕ → ℕ → ℕ → Result Ran Refusal
 ran book packet schedule words area = ran_by (first_failed (run_checks book packet schedule words area)) (stop_of book packet schedule)
 
 abbrev pub final_of : List Packets → Packets
 final_of [] = []
 final_of (s ∷ l) = s
 
-abbrev pub result_run : Ran → List ℕ → List ℕ → List ℕ
-result_run (Finished f) words result = overwritten words result
-result_run (Running p) words result = result
-result_run (NotRun r) words result = result
+abbrev pub result_run : Result Ran Refusal → List ℕ → List ℕ → List ℕ
+result_run (Ok (Finished f)) words result = overwritten words result
+result_run (Ok (Running p)) words result = result
+result_run (Err r) words result = result
 
 unfoldable pub ran_result : List ℕ → List ℕ → List ℕ → List ℕ → ℕ → List ℕ
 ran_result book packet schedule result area =
@@ -153,10 +150,10 @@ ran_result book packet schedule result area =
     (values_of (fields_of book) (final_of (finish (run (start book packet) schedule)))) result
 
 -- "After either, the first 21,760 words of the working area are zero and the others kept"
-abbrev pub area_run : Ran → List ℕ → List ℕ
-area_run (Finished f) area = overwritten (replicate area_words 0) area
-area_run (Running p) area = overwritten (replicate area_words 0) area
-area_run (NotRun r) area = area
+abbrev pub area_run : Result Ran Refusal → List ℕ → List ℕ
+area_run (Ok (Finished f)) area = overwritten (replicate area_words 0) area
+area_run (Ok (Running p)) area = overwritten (replicate area_words 0) area
+area_run (Err r) area = area
 
 unfoldable pub ran_area : List ℕ → List ℕ → List ℕ → ℕ → List ℕ → List ℕ
 ran_area book packet schedule words area = area_run (ran book packet schedule words (length area)) area

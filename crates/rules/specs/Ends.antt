@@ -1,10 +1,9 @@
 -- The three ends of a run, each in full: turned away by the first number that applies, finished, running. The limits stand here as
 -- document 01's numbers.
-use Rattle.std.specs.Prelude.{ℕ, ◌*◌, ◌≤◌, ◌<◌, ◌≡◌, true, false, ◌↔◌, ◌⊎◌, List, length, take, drop, replicate}
+use Rattle.std.specs.Prelude.{ℕ, ◌*◌, ◌≤◌, ◌<◌, ◌≡◌, true, false, ◌↔◌, ◌⊎◌, List, length, take, drop, replicate, Err, Ok, Result}
 use Rattle.rules.specs.declared.Reason.TheVariants.{PacketLength, Unpopulated, TooWide, Positions, BufferLength}
 use Rattle.rules.specs.declared.Refusal.{Refusal}
 use Rattle.rules.specs.declared.Sizes.{Sizes}
-use Rattle.rules.specs.declared.Verdict.TheVariants.{Accepted, Refused}
 use Rattle.rules.specs.declared.Ran.{Ran}
 use Rattle.rules.specs.declared.Ran.TheVariants.{Finished, Running}
 use Rattle.rules.specs.Packets.{Packet, Packets, Ascending, ◌∈◌, values_of}
@@ -21,7 +20,7 @@ use Rattle.rules.specs.Answers.{start_set, start}
 -- the book is accepted, and the packet has its words (past 1 to 8)
 pub record Fitting (book packet : List ℕ) : Type 0 where
   pub sizes : Sizes
-  pub accepted : verdict book ≡ Accepted sizes
+  pub accepted : verdict book ≡ Ok sizes
   pub words : length packet ≡ fields_of book
 
 -- and both buffers are long enough (past 12)
@@ -32,8 +31,8 @@ pub record Buffered (book packet : List ℕ) (words area : ℕ) : Type 0 where
 
 -- why a run of a book on a packet is turned away, with a result of so many words and an area of so many
 pub data TurnedAway (book packet : List ℕ) (words area : ℕ) : Refusal → Type 0 where
-  by_book : {r : Refusal} → verdict book ≡ Refused r → TurnedAway book packet words area r
-  by_packet : {z : Sizes} → verdict book ≡ Accepted z → (length packet ≡ fields_of book → ⊥)
+  by_book : {r : Refusal} → verdict book ≡ Err r → TurnedAway book packet words area r
+  by_packet : {z : Sizes} → verdict book ≡ Ok z → (length packet ≡ fields_of book → ⊥)
       → TurnedAway book packet words area (no_place PacketLength)
   by_buffer : Fitting book packet → (words < 16 * fields_of book) ⊎ (area < 21760) → TurnedAway book packet words area (no_place BufferLength)
   by_table : Buffered book packet words area → names_open (main_of book) ≡ true → TurnedAway book packet words area (no_place Unpopulated)
@@ -51,23 +50,23 @@ pub record Cleared (area area' : List ℕ) : Type 0 where
 
 -- N steps, and exactly the packets of the published meaning: "the count c, the packets in the first c·k words of the result, other
 -- words kept"
-pub record FinishedExactly (book packet result area : List ℕ) (r : Ran) (result' area' : List ℕ) : Type 0 where
+pub record FinishedExactly (book packet result area : List ℕ) (r : Result Ran Refusal) (result' area' : List ℕ) : Type 0 where
   pub packets : Packets
   pub ascending : Ascending packets
   pub exact : (b : Packet) → (b ∈ packets) ↔ Gives (main_of book) packet b
   pub long : (b : Packet) → b ∈ packets → length b ≡ fields_of book
-  pub answer : r ≡ Finished (record { steps = steps (main_of book) (start_set packet); count = length packets })
+  pub answer : r ≡ Ok (Finished (record { steps = steps (main_of book) (start_set packet); count = length packets }))
   pub front : take (length packets * fields_of book) result' ≡ values_of (fields_of book) packets
   pub others : drop (length packets * fields_of book) result' ≡ drop (length packets * fields_of book) result
   pub cleared : Cleared area area'
 
 -- a step for each choice, what is live and ready in the state reached, a step ready; "Running: result kept"
-pub record RunningExactly (book packet schedule result area : List ℕ) (r : Ran) (result' area' : List ℕ) : Type 0 where
-  pub answer : r ≡ Running (record {
+pub record RunningExactly (book packet schedule result area : List ℕ) (r : Result Ran Refusal) (result' area' : List ℕ) : Type 0 where
+  pub answer : r ≡ Ok (Running (record {
     steps = length schedule;
     live = live (run (start book packet) schedule);
     ready = ready (run (start book packet) schedule);
-  })
+  }))
   pub more : 0 < ready (run (start book packet) schedule)
   pub kept : result' ≡ result
   pub cleared : Cleared area area'

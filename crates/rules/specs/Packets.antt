@@ -1,7 +1,7 @@
 -- Packets, their order, and sets of packets (document 01, "Packets and sets").
 use Rattle.std.specs.Prelude.{ℕ, suc, ◌-◌, ◌≡◌, Bool, true, false, not, cond, ◌||◌, ◌⊎◌, List, [], ◌∷◌, ◌++◌, map, ltb, eqb, length, get_or, set, take, replicate}
-use Rattle.rules.specs.declared.Order.{Order}
-use Rattle.rules.specs.declared.Order.TheVariants.{Less, Same, More}
+use Rattle.std.specs.declared.cmp.Ordering.{Ordering}
+use Rattle.std.specs.declared.cmp.Ordering.TheVariants.{Less, Equal, Greater}
 use Rattle.rules.specs.Masks.{has}
 
 -- a value for each field, field 0 first; a field that a position lacks holds 0
@@ -39,15 +39,15 @@ abbrev pub without : ℕ → Packet → Packet
 without w a = mix w a []
 
 -- "compared by field 0 first, then field 1, and so on"
-abbrev pub order_by : Bool → Bool → Order → Order
+abbrev pub order_by : Bool → Bool → Ordering → Ordering
 order_by true b o = Less
-order_by false true o = More
+order_by false true o = Greater
 order_by false false o = o
 
-unfoldable pub order_of : Packet → Packet → Order
-order_of [] [] = Same
+unfoldable pub order_of : Packet → Packet → Ordering
+order_of [] [] = Equal
 order_of [] (y ∷ b) = Less
-order_of (x ∷ a) [] = More
+order_of (x ∷ a) [] = Greater
 order_of (x ∷ a) (y ∷ b) = order_by (ltb x y) (ltb y x) (order_of a b)
 
 abbrev pub Before : Packet → Packet → Type 0
@@ -71,10 +71,10 @@ b ∈ [] = ⊥
 b ∈ (x ∷ s) = (b ≡ x) ⊎ (b ∈ s)
 
 -- the set with x in its place, once; r is x put in after y
-abbrev pub put_by : Order → Packet → Packet → Packets → Packets → Packets
+abbrev pub put_by : Ordering → Packet → Packet → Packets → Packets → Packets
 put_by Less x y s r = x ∷ y ∷ s
-put_by Same x y s r = y ∷ s
-put_by More x y s r = y ∷ r
+put_by Equal x y s r = y ∷ s
+put_by Greater x y s r = y ∷ r
 
 unfoldable pub insert : Packet → Packets → Packets
 insert x [] = x ∷ []
@@ -94,10 +94,10 @@ unfoldable pub keep : (Packet → Bool) → Packets → Packets
 keep t [] = []
 keep t (x ∷ s) = cons_if (t x) x (keep t s)
 
-abbrev pub is_same : Order → Bool
+abbrev pub is_same : Ordering → Bool
 is_same Less = false
-is_same Same = true
-is_same More = false
+is_same Equal = true
+is_same Greater = false
 
 unfoldable pub member : Packet → Packets → Bool
 member b [] = false

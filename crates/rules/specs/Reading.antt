@@ -1,15 +1,11 @@
 -- Reading a book: form with its places, the decoder, and the verdict on any bytes, numbers 1 to 7
 -- (document 01, "The policy book" and "Numbers that turn a call away").
-use Rattle.std.specs.Prelude.{ℕ, zero, suc, ◌+◌, ◌*◌, Bool, true, false, not, cond, ◌&&◌, ◌||◌, List, [], ◌∷◌, ◌++◌, ltb, leb, eqb, length, get_or, take, drop}
+use Rattle.std.specs.Prelude.{ℕ, zero, suc, ◌+◌, ◌*◌, Bool, true, false, not, cond, ◌&&◌, ◌||◌, List, [], ◌∷◌, ◌++◌, ltb, leb, eqb, length, get_or, take, drop, Err, Ok, Result}
 use Rattle.std.proofs.Math.Option.{Option, none, some}
 use Rattle.rules.specs.declared.Head.{Head}
-use Rattle.rules.specs.declared.Reading.{Reading}
-use Rattle.rules.specs.declared.Reading.TheVariants.{Next, Wrong}
 use Rattle.rules.specs.declared.Reason.TheVariants.{BookLength, Counts, Lengths, EntryMasks, Form, Limits, Typing}
 use Rattle.rules.specs.declared.Refusal.{Refusal}
 use Rattle.rules.specs.declared.Sizes.{Sizes}
-use Rattle.rules.specs.declared.Verdict.{Verdict}
-use Rattle.rules.specs.declared.Verdict.TheVariants.{Accepted, Refused}
 use Rattle.rules.specs.Checks.{Check, check, check_at, first_failed}
 use Rattle.rules.specs.Masks.{in_fields}
 use Rattle.rules.specs.Codes.{operands_of, parts_of}
@@ -21,13 +17,13 @@ use Rattle.rules.specs.Books.{entries, bytes_of, first_body, use_of, no_use, mas
 -- ---- the form of a body (5): "each read left to right, the first byte that cannot stand there"
 
 -- go on from the next place, or hand the refusal up
-abbrev pub and_then : Reading → (ℕ → Reading) → Reading
-and_then (Next a) f = f a
-and_then (Wrong a) f = Wrong a
+abbrev pub and_then : Result ℕ ℕ → (ℕ → Result ℕ ℕ) → Result ℕ ℕ
+and_then (Ok a) f = f a
+and_then (Err a) f = Err a
 
 -- the byte at a place; "if a body ends early, the place just after it"
-unfoldable pub byte_if : List ℕ → (ℕ → Bool) → ℕ → Reading
-byte_if s ok at = cond (ltb at (length s)) (cond (ok (get_or s at 0)) (Next (at + 1)) (Wrong at)) (Wrong (length s))
+unfoldable pub byte_if : List ℕ → (ℕ → Bool) → ℕ → Result ℕ ℕ
+byte_if s ok at = cond (ltb at (length s)) (cond (ok (get_or s at 0)) (Ok (at + 1)) (Err at)) (Err (length s))
 
 -- may a part with this code stand there, by code 0 to 8: whether tables may, whether only a predicate may
 abbrev pub standing : Bool → Bool → List Bool
@@ -65,33 +61,33 @@ unfoldable pub operands_wrong : ℕ → ℕ → ℕ → List ℕ → Option ℕ
 operands_wrong k m code = get_or (operand_tests k m) code any_operands
 
 -- n operands from a place on, judged together: the first that cannot stand, or the end where they are cut
-abbrev pub judged : List ℕ → ℕ → ℕ → Option ℕ → Reading
-judged s n at none = cond (leb (at + n) (length s)) (Next (at + n)) (Wrong (length s))
-judged s n at (some i) = Wrong (at + i)
+abbrev pub judged : List ℕ → ℕ → ℕ → Option ℕ → Result ℕ ℕ
+judged s n at none = cond (leb (at + n) (length s)) (Ok (at + n)) (Err (length s))
+judged s n at (some i) = Err (at + i)
 
 -- the operands of a code at a place, as many as there are
 abbrev pub operands_at : List ℕ → ℕ → ℕ → List ℕ
 operands_at s code at = take (operands_of code) (drop (at + 1) s)
 
-unfoldable pub read_operands : List ℕ → ℕ → ℕ → ℕ → ℕ → Reading
+unfoldable pub read_operands : List ℕ → ℕ → ℕ → ℕ → ℕ → Result ℕ ℕ
 read_operands s k m code at = judged s (operands_of code) (at + 1) (operands_wrong k m code (operands_at s code at))
 
 -- n parts one after the other
-abbrev pub read_times : ℕ → (ℕ → Reading) → ℕ → Reading
-read_times zero f at = Next at
+abbrev pub read_times : ℕ → (ℕ → Result ℕ ℕ) → ℕ → Result ℕ ℕ
+read_times zero f at = Ok at
 read_times (suc n) f at = and_then (f at) (read_times n f)
 
 -- one part and what stands below it, at most d deep: "for depth 33 or a wrong kind of part, its code byte"
-unfoldable pub read_part : List ℕ → Scope → ℕ → Bool → ℕ → Reading
-read_part s c zero pred at = and_then (byte_if s (stands c.main pred) at) (λ a. Wrong at)
+unfoldable pub read_part : List ℕ → Scope → ℕ → Bool → ℕ → Result ℕ ℕ
+read_part s c zero pred at = and_then (byte_if s (stands c.main pred) at) (λ a. Err at)
 read_part s c (suc d) pred at =
     and_then (byte_if s (stands c.main pred) at) λ a.
     and_then (read_operands s c.fields c.tables (get_or s at 0) at)
     (read_times (parts_of (get_or s at 0)) (read_part s c d (eqb (get_or s at 0) 4 || pred)))
 
 -- "A body is exactly one policy": it ends where s ends
-unfoldable pub read_body : List ℕ → Scope → ℕ → Reading
-read_body s c start = and_then (read_part s c most_depth false start) (λ a. cond (eqb a (length s)) (Next a) (Wrong a))
+unfoldable pub read_body : List ℕ → Scope → ℕ → Result ℕ ℕ
+read_body s c start = and_then (read_part s c most_depth false start) (λ a. cond (eqb a (length s)) (Ok a) (Err a))
 
 -- ---- the contents
 
@@ -121,14 +117,14 @@ body_start s zero = first_body (tables_of s)
 body_start s (suc x) = body_start s x + length_at s x
 
 -- the bodies of the n entries from x on, in order; "A table with length 0 is not yet populated; a main policy of length 0 is a 5"
-unfoldable pub read_entry : List ℕ → ℕ → Reading
+unfoldable pub read_entry : List ℕ → ℕ → Result ℕ ℕ
 read_entry s zero = read_body (take (body_start s 1) s) (scope_of (fields_of s) (tables_of s) true) (body_start s 0)
 read_entry s (suc x) =
-    cond (eqb (length_at s (suc x)) 0) (Next (body_start s (suc x)))
+    cond (eqb (length_at s (suc x)) 0) (Ok (body_start s (suc x)))
     (read_body (take (body_start s (suc (suc x))) s) (scope_of (fields_of s) (tables_of s) false) (body_start s (suc x)))
 
-unfoldable pub read_entries : List ℕ → ℕ → ℕ → Reading
-read_entries s zero x = Next (length s)
+unfoldable pub read_entries : List ℕ → ℕ → ℕ → Result ℕ ℕ
+read_entries s zero x = Ok (length s)
 read_entries s (suc n) x = and_then (read_entry s x) (λ a. read_entries s n (suc x))
 
 -- every entry's masks, populated or not (4)
@@ -236,13 +232,13 @@ typing_faults P =
 -- ---- the verdict: the numbers 1 to 7 in their order
 
 -- did the reading go through, and where did it stop
-abbrev pub goes_on : Reading → Bool
-goes_on (Next a) = true
-goes_on (Wrong a) = false
+abbrev pub goes_on : Result ℕ ℕ → Bool
+goes_on (Ok a) = true
+goes_on (Err a) = false
 
-abbrev pub stops_at : Reading → ℕ
-stops_at (Next a) = 0
-stops_at (Wrong a) = a
+abbrev pub stops_at : Result ℕ ℕ → ℕ
+stops_at (Ok a) = 0
+stops_at (Err a) = a
 
 -- are there no faults, and where is the first
 abbrev pub no_fault : List ℕ → Bool
@@ -275,9 +271,9 @@ book_checks s =
 unfoldable pub sizes_of : List ℕ → Sizes
 sizes_of s = record { fields = fields_of s; tables = tables_of s; parts = parts (main_of s); deep = deep (main_of s) }
 
-abbrev pub verdict_by : Option Refusal → Sizes → Verdict
-verdict_by none z = Accepted z
-verdict_by (some r) z = Refused r
+abbrev pub verdict_by : Option Refusal → Sizes → Result Sizes Refusal
+verdict_by none z = Ok z
+verdict_by (some r) z = Err r
 
-unfoldable pub verdict : List ℕ → Verdict
+unfoldable pub verdict : List ℕ → Result Sizes Refusal
 verdict s = verdict_by (first_failed (book_checks s)) (sizes_of s)

@@ -6,16 +6,8 @@ ghost use Rattle.std.specs.Prelude.{◌≡◌};
 ghost use Rattle.rules.specs.Codes.{shape_at};
 ghost use Rattle.rules.specs.Checks.{no_place, number_of};
 
-// How one packet lies to another.
-#[derive(Clone, Copy)]
-pub enum Order {
-    Less,
-    Same,
-    More,
-}
-
 // Operand bytes of a code, and how many parts stand below it.
-#[derive(Clone, Copy)]
+#[derive(Clone, Copy, Debug, PartialEq, Eq)]
 pub struct Shape {
     pub operands: usize,
     pub parts: usize,
@@ -23,7 +15,7 @@ pub struct Shape {
 
 // The head of a part: its code, its operands by what each code takes them for (field and value of a test or set, the fields that
 // each side of a concurrent part may write, the table that is used), and where the parts below it begin.
-#[derive(Clone, Copy)]
+#[derive(Clone, Copy, Debug, PartialEq, Eq)]
 pub struct Head {
     pub code: u8,
     pub field: u8,
@@ -34,41 +26,52 @@ pub struct Head {
     pub from: usize,
 }
 
-// Next place, or the place of the first byte that cannot stand there.
-#[derive(Clone, Copy)]
-pub enum Reading {
-    Next(usize),
-    Wrong(usize),
-}
-
-// Why a call is turned away: document 01, "Numbers that turn a call away", 1 to 14 in order.
-#[derive(Clone, Copy)]
+// Why a call is turned away, by document 01's number: "Numbers that turn a call away".
+#[derive(Clone, Copy, Debug, PartialEq, Eq)]
 pub enum Reason {
-    BookLength,
-    Counts,
-    Lengths,
-    EntryMasks,
-    Form,
-    Limits,
-    Typing,
-    PacketLength,
-    Unpopulated,
-    TooWide,
-    Positions,
-    BufferLength,
-    Stuck,
-    Input,
+    BookLength = 1,
+    Counts = 2,
+    Lengths = 3,
+    EntryMasks = 4,
+    Form = 5,
+    Limits = 6,
+    Typing = 7,
+    PacketLength = 8,
+    Unpopulated = 9,
+    TooWide = 10,
+    Positions = 11,
+    BufferLength = 12,
+    Stuck = 13,
+    Input = 14,
 }
 
 // Why, and where in the book: 0 but for three reasons.
-#[derive(Clone, Copy)]
+#[derive(Clone, Copy, Debug, PartialEq, Eq)]
 pub struct Refusal {
     pub reason: Reason,
     pub place: usize,
 }
 
+impl Refusal {
+    // The number of a refusal, 1 to 14.
+    pub fn number(self) -> usize
+        ensures { result ≡ number_of self }
+    {
+        self.reason as usize
+    }
+}
+
+// A refusal with no place.
+impl From<Reason> for Refusal {
+    ghost from_gives = { λ reason refusal. refusal ≡ no_place reason };
+
+    fn from(reason: Reason) -> Refusal {
+        Refusal { reason, place: 0 }
+    }
+}
+
 // What an accepted book says of itself: k, m, n and D.
-#[derive(Clone, Copy)]
+#[derive(Clone, Copy, Debug, PartialEq, Eq)]
 pub struct Sizes {
     pub fields: usize,
     pub tables: usize,
@@ -76,14 +79,8 @@ pub struct Sizes {
     pub deep: usize,
 }
 
-#[derive(Clone, Copy)]
-pub enum Verdict {
-    Accepted(Sizes),
-    Refused(Refusal),
-}
-
 // What the evaluator answers beside the packets: their count, N, n, D and the room.
-#[derive(Clone, Copy)]
+#[derive(Clone, Copy, Debug, PartialEq, Eq)]
 pub struct Outcome {
     pub count: usize,
     pub steps: u64,
@@ -92,83 +89,74 @@ pub struct Outcome {
     pub room: u64,
 }
 
-#[derive(Clone, Copy)]
-pub enum Evaluated {
-    Given(Outcome),
-    NotGiven(Refusal),
-}
-
 // A finished run: steps made and packets; an unfinished one: steps made, live and ready positions.
-#[derive(Clone, Copy)]
+#[derive(Clone, Copy, Debug, PartialEq, Eq)]
 pub struct Finish {
     pub steps: usize,
     pub count: usize,
 }
 
-#[derive(Clone, Copy)]
+#[derive(Clone, Copy, Debug, PartialEq, Eq)]
 pub struct Progress {
     pub steps: usize,
     pub live: usize,
     pub ready: usize,
 }
 
-#[derive(Clone, Copy)]
+#[derive(Clone, Copy, Debug, PartialEq, Eq)]
 pub enum Ran {
     Finished(Finish),
     Running(Progress),
-    NotRun(Refusal),
 }
 
-// The one table of the nine codes (id, drop, test, set, not, sum, sequence, beside, table): operand bytes and parts, four bits for each
-// code from the lowest up. An array that is indexed by a number known only at run time would be laid out on the stack at each look.
-const OPERANDS: u64 = 3 * 256 + 3 * 4096 + 2 * 268435456 + 4294967296;
-
-const PARTS: u64 = 65536 + 2 * 1048576 + 2 * 16777216 + 2 * 268435456;
+// The one table of the nine codes: id, drop, test, set, not, sum, sequence, beside, table.
+static SHAPES: [Shape; 9] = [
+    Shape {
+        operands: 0,
+        parts: 0,
+    },
+    Shape {
+        operands: 0,
+        parts: 0,
+    },
+    Shape {
+        operands: 3,
+        parts: 0,
+    },
+    Shape {
+        operands: 3,
+        parts: 0,
+    },
+    Shape {
+        operands: 0,
+        parts: 1,
+    },
+    Shape {
+        operands: 0,
+        parts: 2,
+    },
+    Shape {
+        operands: 0,
+        parts: 2,
+    },
+    Shape {
+        operands: 2,
+        parts: 2,
+    },
+    Shape {
+        operands: 1,
+        parts: 0,
+    },
+];
 
 // A code's row of the table; that of id for an unknown code.
 pub fn shape_of(code: u8) -> Shape
     ensures { result ≡ shape_at code }
 {
-    if code < 9 {
-        let at = 4 * code;
-        Shape {
-            operands: ((OPERANDS >> at) % 16) as usize,
-            parts: ((PARTS >> at) % 16) as usize,
-        }
+    let row = usize::from(code);
+    if row < SHAPES.len() {
+        SHAPES[row]
     } else {
-        Shape {
-            operands: 0,
-            parts: 0,
-        }
+        SHAPES[0]
     }
-}
-
-// The number of a refusal, 1 to 14.
-pub fn number_of(r: Refusal) -> usize
-    ensures { result ≡ number_of r }
-{
-    let reason = r.reason;
-    match reason {
-        Reason::BookLength => 1,
-        Reason::Counts => 2,
-        Reason::Lengths => 3,
-        Reason::EntryMasks => 4,
-        Reason::Form => 5,
-        Reason::Limits => 6,
-        Reason::Typing => 7,
-        Reason::PacketLength => 8,
-        Reason::Unpopulated => 9,
-        Reason::TooWide => 10,
-        Reason::Positions => 11,
-        Reason::BufferLength => 12,
-        Reason::Stuck => 13,
-        Reason::Input => 14,
-    }
-}
-
-// A refusal with no place.
-pub fn no_place(reason: Reason) -> Refusal
-    ensures { result ≡ no_place reason }
-{
-    Refusal { reason, place: 0 }
 }

@@ -8,7 +8,6 @@ use native.Mathlib.Decide.{dec_lt}
 use lib.ListN.{length, take, drop, get_or, set, replicate, length-append, length-take, take-append-drop}
 use lib.Seq.{slice, length-slice, drop-cons, take_at, drop_at, drop-drop, take-take, take-suc, take-set-le, get_or-take, get_or-drop}
 use lib.Seq.{set_out}
-use Rattle.rules.specs.declared.Order.TheVariants.{Less, Same, More}
 use Rattle.rules.specs.Packets.{Packet, Packets, order_of, Before, AllAfter, Ascending, put, insert, union, gathered}
 use Rattle.rules.proofs.Orders.{order_refl, order_same, order_turned, before_trans, after_trans}
 use Rattle.rules.proofs.Sets.{insert_ascending, length_insert_le, length_insert_more, length_union_le, gathered_same}
@@ -16,8 +15,9 @@ use Rattle.rows.specs.Chunks.{rows_of, blank, Array, Packed, Held, Stored, Clear
 use Rattle.rows.proofs.Chunks.{length_rows_lem, length_row, drop_replicate}
 use Rattle.rows.proofs.Clearing.{trimmed}
 use Rattle.rows.proofs.Holding.{length_packets, held_self, held_as}
-use Rattle.sets.specs.declared.Place.TheVariants.{At, There}
-use Rattle.sets.specs.Lists.{Placed, Shifted, Inserted, Changed, Zeroed}
+use Rattle.std.specs.Prelude.{Option, Some, None, IsSome}
+use Rattle.std.specs.declared.cmp.Ordering.TheVariants.{Less, Equal, Greater}
+use Rattle.sets.specs.Lists.{Placed, Shifted, Put, Inserted, Changed, Zeroed}
 use Rattle.sets.proofs.Rows.{set_take, set_drop, set_from, slice_at, slice_end}
 
 -- ---- where a packet goes in an ascending list
@@ -28,13 +28,13 @@ after_at x (y ∷ s) zero h l = h.0
 after_at x (y ∷ s) (suc i) h l = after_at x s i h.1 (omega arith)
 
 -- past packet i, if p is after it
-insert_past : (p : Packet) (s : Packets) (i : ℕ) → Ascending s → i < length s → order_of p (get_or s i []) ≡ More
+insert_past : (p : Packet) (s : Packets) (i : ℕ) → Ascending s → i < length s → order_of p (get_or s i []) ≡ Greater
     → insert p s ≡ take (suc i) s ++ insert p (drop (suc i) s)
 unfolding insert
 insert_past p [] i h l e = absurd (omega arith)
 insert_past p (x ∷ s) zero h l e = rw e
 insert_past p (x ∷ s) (suc i) h l e =
-    let b = before_trans x (get_or s i []) p (after_at x s i h.0 (omega arith)) (order_turned p (get_or s i []) More e) in
+    let b = before_trans x (get_or s i []) p (after_at x s i h.0 (omega arith)) (order_turned p (get_or s i []) Greater e) in
     rw (order_turned x p Less b) (ap (λ (r : Packets). x ∷ r) (insert_past p s i h.1 (omega arith) e))
 
 -- nowhere, if it is there
@@ -59,13 +59,13 @@ module _ (R : Packets) (p : Packet) (k i : ℕ) (hk : k ≤ length R) (q : Ascen
   row_before : get_or (take k R) (i - 1) [] ≡ get_or R (i - 1) []
   row_before = get_or-take k R (i - 1) [] (omega arith)
 
-  pub placed_here : order_of p (get_or R (i - 1) []) ≡ More → insert p (drop i (take k R)) ≡ p ∷ drop i (take k R) → Placed p (take k R) (At i)
+  pub placed_here : order_of p (get_or R (i - 1) []) ≡ Greater → insert p (drop i (take k R)) ≡ p ∷ drop i (take k R) → Placed p (take k R) (Some i)
   placed_here e f =
       let d : suc (i - 1) ≡ i = omega arith in
       let z = insert_past p (take k R) (i - 1) q in_rows (rw row_before e) in
       (simp length-take (omega arith), rw (d, f) at z)
 
-  pub placed_there : order_of p (get_or R (i - 1) []) ≡ Same → Placed p (take k R) There
+  pub placed_there : order_of p (get_or R (i - 1) []) ≡ Equal → Placed p (take k R) None
   placed_there e = insert_there p (take k R) (i - 1) q in_rows (rw row_before (order_same _ _ e))
 
   pub placed_on : order_of p (get_or R (i - 1) []) ≡ Less → insert p (drop (i - 1) (take k R)) ≡ p ∷ drop (i - 1) (take k R)
@@ -74,9 +74,6 @@ module _ (R : Packets) (p : Packet) (k i : ℕ) (hk : k ≤ length R) (q : Ascen
 pub placed_start : (R : Packets) (p : Packet) (k : ℕ) → insert p (drop k (take k R)) ≡ p ∷ drop k (take k R)
 unfolding insert
 placed_start R p k = rw (slice_end R k k (omega arith))
-
-pub placed_first : (p : Packet) (s : Packets) (i : ℕ) → i ≡ 0 → insert p (drop i s) ≡ p ∷ drop i s → Placed p s (At 0)
-placed_first p s i e f = (omega arith, rw e at f)
 
 -- ---- rows moved up one by one, from the last on
 
@@ -133,47 +130,46 @@ module _ {r : ℕ} {w' w w₀ : List ℕ} (p : Packet) (i k : ℕ) (h : i ≤ k)
       ∙ sym (append_assoc (take i (take k R₀)) (p ∷ slice i k R₀) (drop (k + 1) R₀))
 
   pub inserted : insert p (take k (rows_of r w₀)) ≡ take i (take k (rows_of r w₀)) ++ p ∷ drop i (take k (rows_of r w₀))
-      → Inserted r w' w₀ k p (k + 1)
+      → Put r w' w₀ k p (k + 1)
   inserted c =
       let t : take (k + 1) (rows_of r w') ≡ insert p (take k (rows_of r w₀)) =
       rw (gap, take_at front (drop (k + 1) (rows_of r w₀)) (k + 1) length_front) (sym c) in
       record {
         array = s.array;
+        room = omega arith;
         count = sym length_front ∙ ap length (sym c);
-        made = λ _. t;
-        rest = λ _. rw (gap, drop_at front (drop (k + 1) (rows_of r w₀)) (k + 1) length_front);
+        made = t;
+        rest = rw (gap, drop_at front (drop (k + 1) (rows_of r w₀)) (k + 1) length_front);
         there = λ o. absurd (omega arith);
-        kept = λ o. absurd (omega arith);
       }
 
 pub inserted_there : {r : ℕ} {w₀ : List ℕ} (p : Packet) (k : ℕ) → k ≤ 16 → Array r w₀
     → insert p (take k (rows_of r w₀)) ≡ take k (rows_of r w₀)
-    → Inserted r w₀ w₀ k p k
+    → Put r w₀ w₀ k p k
 inserted_there {r} {w₀} p k h a e = record {
   array = a;
+  room = h;
   count = sym (length_packets r w₀ k h) ∙ ap length (sym e);
-  made = λ _. sym e;
-  rest = λ _. refl;
+  made = sym e;
+  rest = refl;
   there = λ _. refl;
-  kept = λ _. refl;
 }
 
 -- one too many
-pub inserted_not : {r : ℕ} {w₀ : List ℕ} (p : Packet) (i k : ℕ) → k ≡ 16 → Array r w₀
-    → insert p (take k (rows_of r w₀)) ≡ take i (take k (rows_of r w₀)) ++ p ∷ drop i (take k (rows_of r w₀)) → Inserted r w₀ w₀ k p 17
-inserted_not {r} {w₀} p i k h a e =
+pub inserted_not : (r : ℕ) (w₀ : List ℕ) (p : Packet) (i k : ℕ) → k ≡ 16
+    → insert p (take k (rows_of r w₀)) ≡ take i (take k (rows_of r w₀)) ++ p ∷ drop i (take k (rows_of r w₀)) → Inserted r w₀ w₀ k p None
+inserted_not r w₀ p i k h e =
     let s = take k (rows_of r w₀) in
     let n : length (take i s) + length (drop i s) ≡ length s =
     sym (length-append (take i s) (drop i s)) ∙ ap length (take-append-drop i s) in
     let m : length (insert p s) ≡ length (take i s) + suc (length (drop i s)) = ap length e ∙ length-append (take i s) (p ∷ drop i s) in
-    record {
-      array = a;
-      count = omega (arith, length_packets r w₀ k (omega arith));
-      made = λ o. absurd (omega arith);
-      rest = λ o. absurd (omega arith);
-      there = λ o. absurd (omega arith);
-      kept = λ _. refl;
-    }
+    (omega (arith, length_packets r w₀ k (omega arith)), refl)
+
+-- where fewer than 16 are, there is room
+pub inserted_some : (r : ℕ) (w w₀ : List ℕ) (k : ℕ) (p : Packet) (o : Option ℕ) → k < 16 → Inserted r w w₀ k p o → IsSome o
+inserted_some r w w₀ k p (Some n) h i = refl
+inserted_some r w w₀ k p None h i =
+    absurd (omega (arith, i.0, length_insert_more p (take k (rows_of r w₀)), length_packets r w₀ k (omega arith)))
 
 -- ---- rows put in their places where they stand
 
@@ -195,24 +191,23 @@ row_kept R X j e =
     rw z at f
 
 module _ {r : ℕ} {w x : List ℕ} {k : ℕ} {whole : Packets} (j n : ℕ) (a : Sorting r w x j n k whole) where
-  pub sorting_next : {w' p : List ℕ} (c : ℕ) → j < n → n ≤ 16 → p ≡ get_or (rows_of r w) j [] → Inserted r w' w k p c
+  pub sorting_next : {w' p : List ℕ} (c : ℕ) → j < n → n ≤ 16 → p ≡ get_or (rows_of r w) j [] → Put r w' w k p c
       → Sorting r w' x (j + 1) n c whole
   unfolding union
   sorting_next {w'} {p} c h l e i =
       let S = take k (rows_of r w) in
       let few : c ≤ k + 1 = omega (arith, i.count, length_insert_more p S, length_packets r w k (omega (arith, a.below))) in
       let b : k ≤ j = a.below in
-      let m : c ≤ 16 = omega arith in
       let y : p ≡ get_or (rows_of r x) j [] = e ∙ row_kept (rows_of r w) (rows_of r x) j a.tail in
       let d : j + 1 ≡ k + 1 + (j - k) = omega arith in
       let t : drop (j + 1) (rows_of r w') ≡ drop (j + 1) (rows_of r w) =
-      rw (d, ← drop-drop (j - k) (k + 1) (rows_of r w'), i.rest m) (drop-drop (j - k) (k + 1) (rows_of r w)) in
+      rw (d, ← drop-drop (j - k) (k + 1) (rows_of r w'), i.rest) (drop-drop (j - k) (k + 1) (rows_of r w)) in
       record {
         array = i.array;
         below = omega arith;
-        order = rw (i.made m) (insert_ascending p S a.order);
+        order = rw i.made (insert_ascending p S a.order);
         tail = t ∙ rw (← drop-drop 1 j (rows_of r w), ← drop-drop 1 j (rows_of r x), a.tail);
-        same = rw (i.made m, y) (rw (slice_at (rows_of r x) j n h (omega (arith, length_rows_lem r x))) at a.same);
+        same = rw (i.made, y) (rw (slice_at (rows_of r x) j n h (omega (arith, length_rows_lem r x))) at a.same);
       }
 
   pub sorting_end : {w' : List ℕ} → j ≡ n → Zeroed r x n → Cleared r w' w k n → Held r w' k whole
@@ -228,13 +223,13 @@ pub record Gathering (r : ℕ) (w : List ℕ) (k : ℕ) (left whole : Packets) :
   pub packed : Packed r w k
   pub same : union (take k (rows_of r w)) left ≡ whole
 
-pub inserted_packed : {r : ℕ} {w w₀ : List ℕ} {p : Packet} {k n : ℕ} → Packed r w₀ k → Inserted r w w₀ k p n → n ≤ 16 → Packed r w n
-inserted_packed {r} {w} {w₀} {p} {k} {n} q i h =
+pub inserted_packed : {r : ℕ} {w w₀ : List ℕ} {p : Packet} {k n : ℕ} → Packed r w₀ k → Put r w w₀ k p n → Packed r w n
+inserted_packed {r} {w} {w₀} {p} {k} {n} q i =
     let S = take k (rows_of r w₀) in
     let l = length_packets r w₀ k q.room in
     let more : n ≤ k + 1 = omega (arith, i.count, length_insert_more p S) in
     let less : k ≤ n = omega (arith, i.count, length_insert_le p S) in
-    let asc : Ascending (take n (rows_of r w)) = rw (i.made h) (insert_ascending p S q.order) in
+    let asc : Ascending (take n (rows_of r w)) = rw i.made (insert_ascending p S q.order) in
     elim (dec_lt k n) [
       | yes o ↦
           let e : n ≡ k + 1 = omega arith in
@@ -242,22 +237,21 @@ inserted_packed {r} {w} {w₀} {p} {k} {n} q i h =
           let g : drop k (rows_of r w₀) ≡ replicate (1 + (16 - n)) (blank r) = q.zeros ∙ rw m in
           let z : drop (k + 1) (rows_of r w₀) ≡ replicate (16 - n) (blank r) =
           sym (drop-drop 1 k (rows_of r w₀)) ∙ ap (λ (y : Packets). drop 1 y) g ∙ drop_replicate 1 (16 - n) (blank r) in
-          record { array = i.array; room = h; zeros = rw e (i.rest h ∙ rw e at z); order = asc }
+          record { array = i.array; room = i.room; zeros = rw e (i.rest ∙ rw e at z); order = asc }
       | no o ↦
           let e : n ≡ k = omega arith in
           let s = i.there e in
-          record { array = i.array; room = h; zeros = rw (e, s) q.zeros; order = asc }
+          record { array = i.array; room = i.room; zeros = rw (e, s) q.zeros; order = asc }
     ]
 
-module _ {r : ℕ} {w w' : List ℕ} {p : Packet} {k n : ℕ} {left whole : Packets} (a : Gathering r w k (p ∷ left) whole)
-    (i : Inserted r w' w k p n) where
-  pub gathering_next : n ≤ 16 → Gathering r w' n left whole
+module _ {r : ℕ} {w : List ℕ} {p : Packet} {k : ℕ} {left whole : Packets} (a : Gathering r w k (p ∷ left) whole) where
+  pub gathering_next : {w' : List ℕ} {n : ℕ} → Put r w' w k p n → Gathering r w' n left whole
   unfolding union
-  gathering_next h = record { packed = inserted_packed a.packed i h; same = rw (i.made h) a.same }
+  gathering_next i = record { packed = inserted_packed a.packed i; same = rw i.made a.same }
 
-  pub gathering_count : n ≤ length whole
+  pub gathering_count : length (insert p (take k (rows_of r w))) ≤ length whole
   unfolding union
-  gathering_count = omega (arith, i.count, ap length a.same, length_union_le (insert p (take k (rows_of r w))) left)
+  gathering_count = omega (arith, ap length a.same, length_union_le (insert p (take k (rows_of r w))) left)
 
 -- ---- a value written to a field of every row
 

@@ -1,4 +1,5 @@
 -- Two ascending sets merged in one array: the rows raised, one turn of the merge, and the rest lowered.
+use Rattle.std.specs.declared.cmp.Ordering.TheVariants.{Less, Equal, Greater}
 use Prim.Native.Nat.{ℕ, zero, suc, ◌+◌, ◌-◌, ◌≤◌, ◌<◌}
 use mathlib.Core.Path.{◌≡◌, refl, sym, ap, ◌∙◌}
 use mathlib.Core.List.{List, [], ◌∷◌, ◌++◌, append-nil}
@@ -8,7 +9,6 @@ use lib.Arith.{lt_of_le-ne}
 use native.Mathlib.Decide.{dec_lt}
 use lib.Seq.{slice, length-slice, get_or-take, take-add, take-nil, append_snoc, drop-drop, take_at, drop_at, take-take, take-set-le}
 use lib.Seq.{length-take-le}
-use Rattle.rules.specs.declared.Order.TheVariants.{Less, Same, More}
 use Rattle.rules.specs.Packets.{Packet, Packets, Ascending, insert, union}
 use Rattle.rules.proofs.Orders.{order_same, order_turned, after_trans}
 use Rattle.rules.proofs.Sets.{union_after, union_nil, length_union_le, length_union_more}
@@ -25,15 +25,15 @@ module _ (y : Packet) (t : Packets) (ht : Ascending (y ∷ t)) where
   union_less [] e = let z : ◌≡◌ {A = ℕ} 0 1 = cc in absurd (omega arith)
   union_less (x ∷ s) e = (omega arith, union_after x s (y ∷ t) (e, after_trans x y t e ht.0))
 
-  pub union_same : (s : Packets) → from_first s y ≡ Same → (0 < length s) × (union s (y ∷ t) ≡ get_or s 0 [] ∷ union (drop 1 s) t)
+  pub union_same : (s : Packets) → from_first s y ≡ Equal → (0 < length s) × (union s (y ∷ t) ≡ get_or s 0 [] ∷ union (drop 1 s) t)
   unfolding union insert
   union_same [] e = let z : ◌≡◌ {A = ℕ} 0 1 = cc in absurd (omega arith)
-  union_same (x ∷ s) e = (omega arith, rw (order_turned x y Same e) (union_after x s t (rw (order_same x y e) ht.0)))
+  union_same (x ∷ s) e = (omega arith, rw (order_turned x y Equal e) (union_after x s t (rw (order_same x y e) ht.0)))
 
-  pub union_more : (s : Packets) → from_first s y ≡ More → union s (y ∷ t) ≡ y ∷ union s t
+  pub union_more : (s : Packets) → from_first s y ≡ Greater → union s (y ∷ t) ≡ y ∷ union s t
   unfolding union insert
   union_more [] e = union_after y [] t ht.0
-  union_more (x ∷ s) e = rw (order_turned x y More e) (union_after y (x ∷ s) t ht.0)
+  union_more (x ∷ s) e = rw (order_turned x y Greater e) (union_after y (x ∷ s) t ht.0)
 
 -- ---- rows raised, from the last on
 
@@ -168,7 +168,7 @@ first_less : (s : Packets) (y : Packet) → from_first s y ≡ Less → 0 < leng
 first_less [] y e = let z : ◌≡◌ {A = ℕ} 0 1 = cc in absurd (omega arith)
 first_less (x ∷ s) y e = omega arith
 
-first_same : (s : Packets) (y : Packet) → from_first s y ≡ Same → 0 < length s
+first_same : (s : Packets) (y : Packet) → from_first s y ≡ Equal → 0 < length s
 first_same [] y e = let z : ◌≡◌ {A = ℕ} 0 1 = cc in absurd (omega arith)
 first_same (x ∷ s) y e = omega arith
 
@@ -179,7 +179,7 @@ module _ {r : ℕ} {w : List ℕ} (i e k : ℕ) {left whole : Packets} (l : e �
   pub less_some : (y : Packet) → from_first (slice i e (rows_of r w)) y ≡ Less → i < e
   less_some y o = omega (arith, first_less (slice i e (rows_of r w)) y o, length-slice i e (rows_of r w) in_rows)
 
-  pub same_some : (y : Packet) → from_first (slice i e (rows_of r w)) y ≡ Same → i < e
+  pub same_some : (y : Packet) → from_first (slice i e (rows_of r w)) y ≡ Equal → i < e
   same_some y o = omega (arith, first_same (slice i e (rows_of r w)) y o, length-slice i e (rows_of r w) in_rows)
 
   -- packet x comes next, and then a's rows from i' on and the packets left' are left
@@ -206,7 +206,7 @@ module _ {r : ℕ} {w : List ℕ} (i e k : ℕ) {left whole : Packets} (l : e �
         next (get_or (rows_of r w) i []) (i + 1) left (omega (arith, a.below)) (omega arith) (omega arith) s
         (let z = slice_at (rows_of r w) i e h in_rows in rw (d, z) (rw z at u))
 
-    pub merging_same : {w' : List ℕ} → from_first (slice i e (rows_of r w)) y ≡ Same → Stored r w' w k (get_or (rows_of r w) i [])
+    pub merging_same : {w' : List ℕ} → from_first (slice i e (rows_of r w)) y ≡ Equal → Stored r w' w k (get_or (rows_of r w) i [])
         → Merging r w' (i + 1) e (k + 1) t whole
     merging_same o s =
         let h = same_some y o in
@@ -214,13 +214,13 @@ module _ {r : ℕ} {w : List ℕ} (i e k : ℕ) {left whole : Packets} (l : e �
         next (get_or (rows_of r w) i []) (i + 1) t (omega (arith, a.below)) (omega arith) (omega arith) s
         (let z = slice_at (rows_of r w) i e h in_rows in rw (d, z) (rw z at u))
 
-    pub merging_more : {w' : List ℕ} → from_first (slice i e (rows_of r w)) y ≡ More → (k ≡ i → ⊥) → Stored r w' w k y
+    pub merging_more : {w' : List ℕ} → from_first (slice i e (rows_of r w)) y ≡ Greater → (k ≡ i → ⊥) → Stored r w' w k y
         → Merging r w' i e (k + 1) t whole
     merging_more o n s =
         next y i t (lt_of_le-ne a.below n) (omega arith) a.upto s (rw d (union_more y t ht (slice i e (rows_of r w)) o))
 
     -- what is merged has reached what is still to be merged
-    pub merging_over : (h m : ℕ) → from_first (slice i e (rows_of r w)) y ≡ More → k ≡ i → h ≤ e → length whole ≤ (e - h) + m
+    pub merging_over : (h m : ℕ) → from_first (slice i e (rows_of r w)) y ≡ Greater → k ≡ i → h ≤ e → length whole ≤ (e - h) + m
         → (e < 16 → m ≤ h)
         → 16 < length whole
     merging_over h m o n hl few room =

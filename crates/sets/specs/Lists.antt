@@ -1,17 +1,15 @@
 -- What the helpers that change an array of rows say: where a packet goes, the rows after it moved up, and the whole.
-use Rattle.std.specs.Prelude.{ℕ, ◌+◌, ◌-◌, ◌≤◌, ◌<◌, ◌≡◌, List, [], ◌∷◌, ◌++◌, map, length, take, drop, replicate}
+use Rattle.std.specs.Prelude.{ℕ, ◌+◌, ◌-◌, ◌≤◌, ◌<◌, ◌≡◌, List, [], ◌∷◌, ◌++◌, map, length, take, drop, replicate, Option, Some, None}
 use Rattle.std.proofs.Math.Seq.{slice}
-use Rattle.rules.specs.declared.Order.{Order}
-use Rattle.rules.specs.declared.Order.TheVariants.{Less, More}
+use Rattle.std.specs.declared.cmp.Ordering.{Ordering}
+use Rattle.std.specs.declared.cmp.Ordering.TheVariants.{Less, Greater}
 use Rattle.rules.specs.Packets.{Packet, Packets, most_packets, order_of, Ascending, insert, union}
-use Rattle.rows.specs.Chunks.{rows_of, blank, Array, Packed}
-use Rattle.sets.specs.declared.Place.{Place}
-use Rattle.sets.specs.declared.Place.TheVariants.{At, There}
+use Rattle.rows.specs.Chunks.{rows_of, blank, Array, Held}
 
--- r says where p goes among s
-abbrev pub Placed : Packet → Packets → Place → Type 0
-Placed p s (At i) = (i ≤ length s) × (insert p s ≡ take i s ++ p ∷ drop i s)
-Placed p s There = insert p s ≡ s
+-- before which packet of s p goes; nowhere, where it is there
+abbrev pub Placed : Packet → Packets → Option ℕ → Type 0
+Placed p s (Some i) = (i ≤ length s) × (insert p s ≡ take i s ++ p ∷ drop i s)
+Placed p s None = insert p s ≡ s
 
 -- w is w₀ with rows i to k - 1 one place up; row i is as it was
 pub record Shifted (r : ℕ) (w w₀ : List ℕ) (i k : ℕ) : Type 0 where
@@ -19,20 +17,24 @@ pub record Shifted (r : ℕ) (w w₀ : List ℕ) (i k : ℕ) : Type 0 where
   pub low : take (i + 1) (rows_of r w) ≡ take (i + 1) (rows_of r w₀)
   pub high : drop (i + 1) (rows_of r w) ≡ slice i k (rows_of r w₀) ++ drop (k + 1) (rows_of r w₀)
 
--- n counts the first k rows of w₀ with p in its place; if they are 16 or fewer, w has them, and the rows after row k are as they were
-pub record Inserted (r : ℕ) (w w₀ : List ℕ) (k : ℕ) (p : Packet) (n : ℕ) : Type 0 where
+-- w has the first k rows of w₀ with p in its place, n of them, and the rows after row k as they were
+pub record Put (r : ℕ) (w w₀ : List ℕ) (k : ℕ) (p : Packet) (n : ℕ) : Type 0 where
   pub array : Array r w
+  pub room : n ≤ most_packets
   pub count : n ≡ length (insert p (take k (rows_of r w₀)))
-  pub made : n ≤ most_packets → take n (rows_of r w) ≡ insert p (take k (rows_of r w₀))
-  pub rest : n ≤ most_packets → drop (k + 1) (rows_of r w) ≡ drop (k + 1) (rows_of r w₀)
+  pub made : take n (rows_of r w) ≡ insert p (take k (rows_of r w₀))
+  pub rest : drop (k + 1) (rows_of r w) ≡ drop (k + 1) (rows_of r w₀)
   pub there : n ≡ k → w ≡ w₀
-  pub kept : most_packets < n → w ≡ w₀
 
--- n counts the first k rows of w₀ with all of t in their places, if they are 16 or fewer: then w has them
-pub record Joined (r : ℕ) (w w₀ : List ℕ) (k : ℕ) (t : Packets) (n : ℕ) : Type 0 where
-  pub array : Array r w
-  pub over : most_packets < n → most_packets < length (union (take k (rows_of r w₀)) t)
-  pub made : n ≤ most_packets → Packed r w n × (take n (rows_of r w) ≡ union (take k (rows_of r w₀)) t)
+-- the same with the count that there is; or, where they would be more than 16, there is none, and w is w₀
+abbrev pub Inserted : ℕ → List ℕ → List ℕ → ℕ → Packet → Option ℕ → Type 0
+Inserted r w w₀ k p (Some n) = Put r w w₀ k p n
+Inserted r w w₀ k p None = (most_packets < length (insert p (take k (rows_of r w₀)))) × (w ≡ w₀)
+
+-- w holds the first k rows of w₀ with all of t in their places, so many; or, where they are more than 16, there is no count
+abbrev pub Joined : ℕ → List ℕ → List ℕ → ℕ → Packets → Option ℕ → Type 0
+Joined r w w₀ k t (Some n) = Held r w n (union (take k (rows_of r w₀)) t)
+Joined r w w₀ k t None = (most_packets < length (union (take k (rows_of r w₀)) t)) × Array r w
 
 -- w is w₀ with each of the first n rows changed by g
 pub record Changed (r : ℕ) (w w₀ : List ℕ) (n : ℕ) (g : Packet → Packet) : Type 0 where
@@ -68,11 +70,11 @@ pub record Apart (r : ℕ) (v : List ℕ) (h e m : ℕ) : Type 0 where
   pub zeros : drop e (rows_of r v) ≡ replicate (most_packets - e) (blank r)
 
 -- how the first of some lies to a packet; after it, where there is none
-abbrev pub from_first : Packets → Packet → Order
-from_first [] y = More
+abbrev pub from_first : Packets → Packet → Ordering
+from_first [] y = Greater
 from_first (x ∷ s) y = order_of x y
 
 -- how a packet lies to the first of some; before it, where there is none
-abbrev pub to_first : Packet → Packets → Order
+abbrev pub to_first : Packet → Packets → Ordering
 to_first x [] = Less
 to_first x (y ∷ s) = order_of x y

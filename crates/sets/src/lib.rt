@@ -11,10 +11,7 @@ ghost use Rattle.sets.specs.Lists.{Placed, Shifted, Inserted, Joined, Changed, Z
 ghost use Rattle.sets.specs.Whole.{packets_of, Is};
 
 use rows::MOST;
-use rules::Order;
-
-// The count that says that packets are more than 16.
-const TOO_MANY: usize = MOST + 1;
+use std::cmp::Ordering;
 
 // The places of a row, and the words of sixteen rows.
 pub const PLACES: usize = 8;
@@ -79,13 +76,6 @@ pub fn alone(p: &[u16], w: u8, mask: u8) -> PacketSet
     }
 }
 
-// Where a packet goes among others: before packet i, or it is there.
-#[derive(Clone, Copy)]
-enum Place {
-    At(usize),
-    There,
-}
-
 // The packets that a test passes, moved to the front; gives how many they are.
 pub fn keep_in(v: &mut [u16], n: usize, f: usize, x: u16, r: usize) -> usize
     requires { Packed r v.old n }
@@ -126,14 +116,14 @@ fn raise(v: &mut [u16], n: usize, h: usize, r: usize)
 }
 
 // How row i of a, whose packets end at e, lies to row j of b; after it, where a has no more.
-fn weigh(a: &[u16], i: usize, e: usize, b: &[u16], j: usize, r: usize) -> Order
+fn weigh(a: &[u16], i: usize, e: usize, b: &[u16], j: usize, r: usize) -> Ordering
     requires { (i ≤ e) × (e ≤ most_packets) × (j < most_packets) × Array r a.now × Array r b.now }
     ensures { result ≡ from_first (slice i e (rows_of r a.now)) (get_or (rows_of r b.now) j []) }
 {
     if i < e {
         rows::order_rows(a, i, b, j, r)
     } else {
-        Order::More
+        Ordering::Greater
     }
 }
 
@@ -157,8 +147,8 @@ fn lower(v: &mut [u16], k: usize, i: usize, e: usize, r: usize) -> usize
 }
 
 // The packets that stand from row h to row e, merged with the first m of b, from row 0 on: what is merged never reaches what is still to
-// be merged, unless they are more than 16. Gives how many they are, or 17 and zeros, where they are more than 16.
-fn merge_in(v: &mut [u16], h: usize, e: usize, b: &[u16], m: usize, r: usize) -> usize
+// be merged, unless they are more than 16. Gives how many they are, or none and zeros, where they are more than 16.
+fn merge_in(v: &mut [u16], h: usize, e: usize, b: &[u16], m: usize, r: usize) -> Option<usize>
     requires { Apart r v.old h e m × Packed r b.now m }
     ensures { Fits r v.new result (union (slice h e (rows_of r v.old)) (take m (rows_of r b.now))) }
 {
@@ -168,21 +158,21 @@ fn merge_in(v: &mut [u16], h: usize, e: usize, b: &[u16], m: usize, r: usize) ->
     while j < m {
         let o = weigh(v, i, e, b, j, r);
         match o {
-            Order::Less => {
+            Ordering::Less => {
                 rows::move_row(v, k, i, r);
                 i += 1;
                 k += 1;
             }
-            Order::Same => {
+            Ordering::Equal => {
                 rows::move_row(v, k, i, r);
                 i += 1;
                 j += 1;
                 k += 1;
             }
-            Order::More => {
+            Ordering::Greater => {
                 if k == i {
                     rows::clear_rows(v, 0, e, r);
-                    return TOO_MANY;
+                    return None;
                 }
                 rows::copy_row(v, k, b, j, r);
                 j += 1;
@@ -190,11 +180,11 @@ fn merge_in(v: &mut [u16], h: usize, e: usize, b: &[u16], m: usize, r: usize) ->
             }
         }
     }
-    lower(v, k, i, e, r)
+    Some(lower(v, k, i, e, r))
 }
 
-// The packets of v and of b, in v; gives how many they are, or 17 and zeros, where they are more than 16. There is no other room.
-pub fn union_in(v: &mut [u16], n: usize, b: &[u16], m: usize, r: usize) -> usize
+// The packets of v and of b, in v; gives how many they are, or none and zeros, where they are more than 16. There is no other room.
+pub fn union_in(v: &mut [u16], n: usize, b: &[u16], m: usize, r: usize) -> Option<usize>
     requires { Packed r v.old n × Packed r b.now m }
     ensures { Fits r v.new result (union (take n (rows_of r v.old)) (take m (rows_of r b.now))) }
 {
@@ -203,8 +193,8 @@ pub fn union_in(v: &mut [u16], n: usize, b: &[u16], m: usize, r: usize) -> usize
     merge_in(v, e - n, e, b, m, r)
 }
 
-// Where p goes among the first k packets of w, from the last on.
-fn place_in(w: &[u16], k: usize, p: &[u16], r: usize) -> Place
+// Before which of the first k packets of w p goes, from the last on; none, if it is there.
+fn place_in(w: &[u16], k: usize, p: &[u16], r: usize) -> Option<usize>
     requires { (k ≤ most_packets) × (r ≤ length p.now) × Array r w.now × Ascending (take k (rows_of r w.now)) }
     ensures { Placed (take r p.now) (take k (rows_of r w.now)) result }
 {
@@ -212,12 +202,12 @@ fn place_in(w: &[u16], k: usize, p: &[u16], r: usize) -> Place
     while 0 < i {
         let o = rows::order_row(p, w, i - 1, r);
         match o {
-            Order::More => return Place::At(i),
-            Order::Same => return Place::There,
-            Order::Less => i -= 1,
+            Ordering::Greater => return Some(i),
+            Ordering::Equal => return None,
+            Ordering::Less => i -= 1,
         }
     }
-    Place::At(0)
+    Some(0)
 }
 
 // Rows i to k - 1, each one place up.
@@ -232,24 +222,21 @@ fn shift(w: &mut [u16], i: usize, k: usize, r: usize)
     }
 }
 
-// p put in its place among the first k packets; gives how many they are then. Where they would be 17, the array stays; rows after row k
-// stay in any case.
-pub fn insert_in(w: &mut [u16], k: usize, p: &[u16], r: usize) -> usize
+// p put in its place among the first k packets; gives how many they are then. Where they would be 17, it gives none and the array stays;
+// rows after row k stay in any case.
+pub fn insert_in(w: &mut [u16], k: usize, p: &[u16], r: usize) -> Option<usize>
     requires { (k ≤ most_packets) × (r ≤ length p.now) × Array r w.old × Ascending (take k (rows_of r w.old)) }
     ensures { Inserted r w.new w.old k (take r p.now) result }
 {
-    let o = place_in(w, k, p, r);
-    match o {
-        Place::There => k,
-        Place::At(i) => {
-            if MOST <= k {
-                return TOO_MANY;
-            }
-            shift(w, i, k, r);
-            rows::put_row(w, i, p, r);
-            k + 1
-        }
+    let Some(i) = place_in(w, k, p, r) else {
+        return Some(k);
+    };
+    if MOST <= k {
+        return None;
     }
+    shift(w, i, k, r);
+    rows::put_row(w, i, p, r);
+    Some(k + 1)
 }
 
 // "set field to value" at each of the first n rows; they may be out of order then.
@@ -273,9 +260,9 @@ fn ascends(v: &[u16], n: usize, r: usize) -> bool
     while 1 < i {
         let o = rows::order_rows(v, i - 2, v, i - 1, r);
         match o {
-            Order::Less => i -= 1,
-            Order::Same => return false,
-            Order::More => return false,
+            Ordering::Less => i -= 1,
+            Ordering::Equal => return false,
+            Ordering::Greater => return false,
         }
     }
     true
@@ -290,7 +277,7 @@ fn gather_in(v: &mut [u16], n: usize, r: usize) -> usize
     let mut k = 0;
     while j < n {
         let p = rows::row(v, j, r);
-        k = insert_in(v, k, &p, r);
+        k = insert_in(v, k, &p, r).unwrap();
         j += 1;
     }
     rows::clear_rows(v, k, n, r);
@@ -316,14 +303,14 @@ pub fn set_in(v: &mut [u16], n: usize, f: usize, x: u16, r: usize) -> usize
 }
 
 // How row i of a lies to row j of b, which has m packets; before it, where b has no more.
-fn weigh_out(a: &[u16], i: usize, b: &[u16], j: usize, m: usize, r: usize) -> Order
+fn weigh_out(a: &[u16], i: usize, b: &[u16], j: usize, m: usize, r: usize) -> Ordering
     requires { (i < most_packets) × (j ≤ m) × (m ≤ most_packets) × Array r a.now × Array r b.now }
     ensures { result ≡ to_first (get_or (rows_of r a.now) i []) (slice j m (rows_of r b.now)) }
 {
     if j < m {
         rows::order_rows(a, i, b, j, r)
     } else {
-        Order::Less
+        Ordering::Less
     }
 }
 
@@ -338,23 +325,23 @@ pub fn difference_in(v: &mut [u16], n: usize, b: &[u16], m: usize, r: usize) -> 
     while i < n {
         let o = weigh_out(v, i, b, j, m, r);
         match o {
-            Order::Less => {
+            Ordering::Less => {
                 rows::move_row(v, k, i, r);
                 i += 1;
                 k += 1;
             }
-            Order::Same => {
+            Ordering::Equal => {
                 i += 1;
                 j += 1;
             }
-            Order::More => j += 1,
+            Ordering::Greater => j += 1,
         }
     }
     rows::clear_rows(v, k, n, r);
     k
 }
 
-// The pairings of row i of a with the first m packets of y, put among the first k of v; gives how many they are then, 17 if more than 16.
+// The pairings of row i of a with the first m packets of y, put among the first k of v; gives how many they are then, if 16 or fewer.
 fn pair_in(
     v: &mut [u16],
     k: usize,
@@ -364,7 +351,7 @@ fn pair_in(
     m: usize,
     w: u16,
     r: usize,
-) -> usize
+) -> Option<usize>
     requires { (i < most_packets) × Packed r v.old k × Array r a.now × Packed r y.now m }
     ensures { Joined r v.new v.old k
         (map (mix w (get_or (rows_of r a.now) i [])) (take m (rows_of r y.now))) result }
@@ -373,45 +360,50 @@ fn pair_in(
     let mut c = k;
     while j < m {
         let q = rows::mix_rows(w, a, i, y, j, r);
-        c = insert_in(v, c, &q, r);
-        if MOST < c {
-            return TOO_MANY;
-        }
+        c = insert_in(v, c, &q, r)?;
         j += 1;
     }
-    c
+    Some(c)
 }
 
 // Every pairing of a packet of a and one of b, put into an array of zeros.
-fn pair_all(v: &mut [u16], a: &[u16], n: usize, b: &[u16], m: usize, w: u16, r: usize) -> usize
+fn pair_all(
+    v: &mut [u16],
+    a: &[u16],
+    n: usize,
+    b: &[u16],
+    m: usize,
+    w: u16,
+    r: usize,
+) -> Option<usize>
     requires { Held r v.old 0 [] × Packed r a.now n × Packed r b.now m }
     ensures { Fits r v.new result (pairs w (take n (rows_of r a.now)) (take m (rows_of r b.now))) }
 {
     let mut i = 0;
     let mut k = 0;
     while i < n {
-        k = pair_in(v, k, a, i, b, m, w, r);
-        if MOST < k {
+        let Some(c) = pair_in(v, k, a, i, b, m, w, r) else {
             rows::clear_rows(v, 0, MOST, r);
-            return TOO_MANY;
-        }
+            return None;
+        };
+        k = c;
         i += 1;
     }
-    k
+    Some(k)
 }
 
 // The pairing of the first packets of a and b, put into an array of zeros.
-fn pair_one(v: &mut [u16], a: &[u16], b: &[u16], w: u16, r: usize) -> usize
+fn pair_one(v: &mut [u16], a: &[u16], b: &[u16], w: u16, r: usize) -> Option<usize>
     requires { Held r v.old 0 [] × Array r a.now × Array r b.now }
     ensures { Fits r v.new result (pairs w (take 1 (rows_of r a.now)) (take 1 (rows_of r b.now))) }
 {
     let q = rows::mix_rows(w, a, 0, b, 0, r);
     rows::put_row(v, 0, &q, r);
-    1
+    Some(1)
 }
 
 // Every pairing of a packet of a and one of b, put into an array of zeros: the fields w from b's, all others from a's. Of one and one
-// nothing is compared. Gives how many they are, or 17 and the zeros, where they are more than 16.
+// nothing is compared. Gives how many they are, or none and the zeros, where they are more than 16.
 pub fn pairs_into(
     v: &mut [u16],
     a: &[u16],
@@ -420,15 +412,13 @@ pub fn pairs_into(
     m: usize,
     w: u16,
     r: usize,
-) -> usize
+) -> Option<usize>
     requires { Held r v.old 0 [] × Packed r a.now n × Packed r b.now m }
     ensures { Fits r v.new result (pairs w (take n (rows_of r a.now)) (take m (rows_of r b.now))) }
 {
-    if n != 1 {
-        return pair_all(v, a, n, b, m, w, r);
+    if n == 1 && m == 1 {
+        pair_one(v, a, b, w, r)
+    } else {
+        pair_all(v, a, n, b, m, w, r)
     }
-    if m != 1 {
-        return pair_all(v, a, n, b, m, w, r);
-    }
-    pair_one(v, a, b, w, r)
 }

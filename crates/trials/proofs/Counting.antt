@@ -1,98 +1,120 @@
--- Counting vector by vector: what is still to be counted from a place of the set on.
-use Prim.Native.Nat.{ℕ, zero, suc, ◌+◌, ◌-◌, ◌≤◌, ◌<◌}
-use native.Mathlib.Omega.{arith}
-use mathlib.Core.Path.{◌≡◌, refl, sym, ap, ◌∙◌}
-use mathlib.Core.Bool.{Bool, true, false, not, cond}
-use mathlib.Core.List.{List, [], ◌∷◌}
-use lib.Dec.{eqb}
-use lib.ListN.{length, drop, length-drop, drop_of_length-le}
-use lib.Seq.{drop-drop}
-use borrow.Author.Tests.{eq-eqb, ne_eqb, not-true, not-false}
+-- The vectors of a set, one after the other, and what one more of them adds to a tally.
+use Rattle.std.proofs.Common.{◌≡◌, ℕ, zero, suc, ◌+◌, ◌≤◌, ◌<◌, Bool, true, false, cond, List, [], ◌∷◌, ◌++◌, length, refl, sym, ap, ◌∙◌, append_assoc, arith, zero-add, length-drop, length-append}
+use Rattle.std.specs.Prelude.{Option, Some, None, count_by, position}
+use Rattle.std.specs.Option.{option_or}
+use Rattle.std.specs.Bool.{then_some}
+use Rattle.std.specs.Int.{from_bool}
+use Rattle.std.proofs.lemmas.List.Sums.{sum_by-append, count_by-le-length}
+use Rattle.std.specs.List.{position_from}
+use Rattle.std.proofs.lemmas.Iterator.Adapters.{position_from-zero}
+use Rattle.std.proofs.lemmas.List.{length_push, append-nil}
 use Rattle.rules.specs.Reading.{number_at}
-use Rattle.trials.specs.declared.tallies.Tally.{Tally}
-use Rattle.trials.specs.declared.tallies.Question.{Question}
-use Rattle.trials.specs.Tallies.{asked, none, counted, front_of, rest_of, tallied_in, tallied}
+use Rattle.trials.specs.Sets.{front_of, rest_of, vectors_in, vectors_of}
 
--- with t counted so far, what stands from `at` on makes the whole tally
-pub record Going (q : Question) (set : List ℕ) (t : Tally) (at : ℕ) : Type 0 where
-  pub most : ℕ
-  pub enough : length (drop at set) ≤ most
-  pub goes : tallied q set ≡ tallied_in most q (drop at set) t
+-- ---- the vectors of a set
 
-pub begun : (q : Question) (set : List ℕ) → Going q set none 0
-unfolding tallied
-begun q set = record { most = length set; enough = omega arith; goes = refl }
+-- more than there are change nothing
+enough : (m n : ℕ) (l : List ℕ) → length l ≤ m → length l ≤ n → vectors_in m l ≡ vectors_in n l
+unfolding vectors_in
+enough zero zero l h k = refl
+enough zero (suc n) [] h k = refl
+enough (suc m) zero [] h k = refl
+enough (suc m) (suc n) [] h k = refl
+enough zero n (b ∷ l) h k = absurd (omega arith)
+enough (suc m) zero (b ∷ l) h k = absurd (omega arith)
+enough (suc m) (suc n) (b ∷ l) h k =
+    let fewer = length-drop (2 + number_at (b ∷ l) 0) (b ∷ l) in
+    ap (λ vs. front_of (b ∷ l) ∷ vs) (enough m n (rest_of (b ∷ l)) (omega arith) (omega arith))
 
-one_more : (q : Question) (most : ℕ) (l : List ℕ) (t : Tally) → 0 < length l → length l ≤ most
-    → tallied_in most q l t ≡ tallied_in (most - 1) q (rest_of l) (counted t (asked q (front_of l)))
-unfolding tallied_in
-one_more q zero l t h k = absurd (omega arith)
-one_more q (suc most) [] t h k = absurd (omega arith)
-one_more q (suc most) (b ∷ l) t h k =
-    let e : suc most - 1 ≡ most = omega arith in
-    rw e
+pub vectors_none : (l : List ℕ) → length l ≡ 0 → vectors_of l ≡ []
+unfolding vectors_of vectors_in
+vectors_none [] h = refl
+vectors_none (b ∷ l) h = absurd (omega arith)
 
-none_left : (q : Question) (most : ℕ) (t : Tally) → tallied_in most q [] t ≡ t
-unfolding tallied_in
-none_left q zero t = refl
-none_left q (suc most) t = refl
+pub vectors_next : (l : List ℕ) → 0 < length l → vectors_of l ≡ front_of l ∷ vectors_of (rest_of l)
+unfolding vectors_of vectors_in
+vectors_next [] h = absurd (omega arith)
+vectors_next (b ∷ l) h =
+    let fewer = length-drop (2 + number_at (b ∷ l) 0) (b ∷ l) in
+    ap (λ vs. front_of (b ∷ l) ∷ vs) (enough (length l) (length (rest_of (b ∷ l))) (rest_of (b ∷ l)) (omega arith) (omega arith))
 
-pub went_on : {q : Question} {set : List ℕ} {t : Tally} {at : ℕ} (next : ℕ) → at < length set → Going q set t at
-    → drop next set ≡ rest_of (drop at set) → Going q set (counted t (asked q (front_of (drop at set)))) next
-went_on {q} {set} {t} {at} next h g e =
-    let rest = drop at set in
-    let some : 0 < length rest = omega (arith, length-drop at set) in
-    record {
-      most = g.most - 1;
-      enough = rw e (omega (arith, length-drop (2 + number_at rest 0) rest, g.enough, some));
-      goes = rw e (g.goes ∙ one_more q g.most rest t some g.enough);
-    }
+few : (most : ℕ) (l : List ℕ) → length (vectors_in most l) ≤ most
+unfolding vectors_in
+few zero l = omega arith
+few (suc most) [] = omega arith
+few (suc most) (b ∷ l) = omega (arith, few most (rest_of (b ∷ l)))
 
-pub ended : {q : Question} {set : List ℕ} {t : Tally} {at : ℕ} → length set ≤ at → Going q set t at → t ≡ tallied q set
-ended {q} {set} {t} {at} h g =
-    sym (g.goes ∙ ap (λ (l : List ℕ). tallied_in g.most q l t) (drop_of_length-le set h) ∙ none_left q g.most t)
+pub vectors_few : (l : List ℕ) → length (vectors_of l) ≤ length l
+unfolding vectors_of
+vectors_few l = few (length l) l
 
--- ---- the place of the next vector
+-- ---- one more vector
 
-pub next_cut : (set : List ℕ) (at : ℕ) → length (drop at set) < 2 + number_at (drop at set) 0
-    → drop (length set) set ≡ rest_of (drop at set)
-next_cut set at h =
-    let rest = drop at set in
-    let past : length rest ≤ 2 + number_at rest 0 = omega arith in
-    drop_of_length-le set {i = length set} (omega arith) ∙ sym (drop_of_length-le rest past)
+module _ {X : Type 0} (p : X → Bool) where
+  place_push : (i : ℕ) (xs : List X) (x : X)
+      → position_from p i (xs ++ x ∷ []) ≡ option_or (position_from p i xs) (then_some (p x) (i + length xs))
+  place_push i [] x = by (p x)
+    where
+      by : (b : Bool) → cond b (Some i) None ≡ then_some b (i + 0)
+      by true = ap Some (omega arith)
+      by false = refl
+  place_push i (y ∷ xs) x = by (p y) (place_push (i + 1) xs x)
+    where
+      later : i + 1 + length xs ≡ i + suc (length xs)
+      later = omega arith
 
-pub next_whole : (set : List ℕ) (at : ℕ) → drop (at + (2 + number_at (drop at set) 0)) set ≡ rest_of (drop at set)
-next_whole set at = sym (drop-drop (2 + number_at (drop at set) 0) at set)
+      by : (b : Bool) → position_from p (i + 1) (xs ++ x ∷ []) ≡ option_or (position_from p (i + 1) xs) (then_some (p x) (i + 1 + length xs))
+          → cond b (Some i) (position_from p (i + 1) (xs ++ x ∷ []))
+          ≡ option_or (cond b (Some i) (position_from p (i + 1) xs)) (then_some (p x) (i + suc (length xs)))
+      by true h = refl
+      by false h = rw later at h
 
--- ---- one vector
+  position_push : (xs : List X) (x : X) → position p (xs ++ x ∷ []) ≡ option_or (position p xs) (then_some (p x) (length xs))
+  position_push xs x =
+      position_from-zero p (xs ++ x ∷ []) ∙ rw zero-add at (place_push 0 xs x)
+      ∙ sym (ap (λ o. option_or o (then_some (p x) (length xs))) (position_from-zero p xs))
 
-pub stated_refusal : (a b : ℕ) → a ≡ 0 → b ≡ cond (eqb a 0) b 0
-stated_refusal a b h = rw (eq-eqb a 0 h)
+  one : (b : Bool) → from_bool b ≡ 0 + cond b 1 0
+  one true = refl
+  one false = refl
 
-pub stated_answer : (a b : ℕ) → (a ≡ 0 → ⊥) → 0 ≡ cond (eqb a 0) b 0
-stated_answer a b h = rw (ne_eqb a 0 h)
+  -- all vectors, those still to come, and what was counted of those before
+  pub record Going (all rest : List X) (cases found : ℕ) (first : Option ℕ) : Type 0 where
+    pub done : List X
+    pub whole : all ≡ done ++ rest
+    pub cases_are : cases ≡ length done
+    pub found_are : found ≡ count_by p done
+    pub first_is : first ≡ position p done
 
-module _ (t : Tally) (yes : Bool) where
-  pub counted_no : not yes ≡ true → record { cases = t.cases + 1; found = t.found; first = t.first } ≡ counted t yes
-  unfolding counted
-  counted_no h = rw (not-true yes h)
+  pub begun : (all : List X) → Going all all 0 0 None
+  begun all = record { done = []; whole = refl; cases_are = refl; found_are = refl; first_is = refl }
 
-  pub counted_first : not yes ≡ false → t.found ≡ 0
-      → record { cases = t.cases + 1; found = t.found + 1; first = t.cases } ≡ counted t yes
-  unfolding counted
-  counted_first h e = rw (not-false yes h, eq-eqb t.found 0 e)
+  pub one_more : {all rest : List X} {cases found : ℕ} {first : Option ℕ} (x : X) → Going all (x ∷ rest) cases found first
+      → Going all rest (cases + 1) (found + from_bool (p x)) (option_or first (then_some (p x) cases))
+  one_more {rest = rest} x g = record {
+    done = g.done ++ x ∷ [];
+    whole = g.whole ∙ sym (append_assoc g.done (x ∷ []) rest);
+    cases_are = omega (arith, g.cases_are, length_push g.done x);
+    found_are = rw (sum_by-append, g.found_are, one (p x)) refl;
+    first_is = rw (g.first_is, g.cases_are) (sym (position_push g.done x));
+  }
 
-  pub counted_later : not yes ≡ false → (t.found ≡ 0 → ⊥)
-      → record { cases = t.cases + 1; found = t.found + 1; first = t.first } ≡ counted t yes
-  unfolding counted
-  counted_later h e = rw (not-false yes h, ne_eqb t.found 0 e)
+  at_most_one : (b : Bool) → from_bool b ≤ 1
+  at_most_one true = omega arith
+  at_most_one false = omega arith
 
-pub counted_cases : (t : Tally) (yes : Bool) → (counted t yes).cases ≡ t.cases + 1
-unfolding counted
-counted_cases t true = refl
-counted_cases t false = refl
+  -- with one more, no more is counted than there are
+  pub room : {all rest : List X} {cases found : ℕ} {first : Option ℕ} (x : X) → Going all (x ∷ rest) cases found first
+      → (cases + 1 ≤ length all) × (found + from_bool (p x) ≤ length all)
+  room {rest = rest} x g =
+      let whole = ap length g.whole in
+      let sum = length-append g.done (x ∷ rest) in
+      let some = count_by-le-length p g.done in
+      let one = at_most_one (p x) in
+      (omega (arith, g.cases_are), omega (arith, g.found_are))
 
-pub counted_found : (t : Tally) (yes : Bool) → (counted t yes).found ≤ t.found + 1
-unfolding counted
-counted_found t true = omega arith
-counted_found t false = omega arith
+  pub ended : {all rest : List X} {cases found : ℕ} {first : Option ℕ} → Going all rest cases found first → rest ≡ []
+      → (cases ≡ length all) × (found ≡ count_by p all) × (first ≡ position p all)
+  ended g e =
+      let whole = g.whole ∙ ap (λ r. g.done ++ r) e ∙ append-nil g.done in
+      rw whole (g.cases_are, g.found_are, g.first_is)

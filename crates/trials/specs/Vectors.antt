@@ -1,7 +1,10 @@
 -- A vector, one case of the trials: what three calls are given, and what is stated of their answers. second/README.md has this layout
 -- in a table. Every number is read past the end of the bytes as 0, so that all bytes are a vector.
-use Rattle.std.specs.Prelude.{ℕ, zero, suc, ◌+◌, ◌*◌, ◌%◌, List, [], ◌∷◌, ◌++◌, take, drop}
+use Rattle.std.specs.Prelude.{ℕ, ◌+◌, ◌*◌, ◌%◌, List, [], ◌∷◌, take, drop, map}
+use Rattle.std.specs.List.{range_with_len}
 use Rattle.rules.specs.Reading.{number_at}
+use Rattle.trials.specs.declared.vectors.Call.{Call}
+use Rattle.trials.specs.declared.vectors.Call.TheVariants.{Accept, Evaluate, Run}
 
 -- the number in four bytes, high byte first
 abbrev pub long_at : List ℕ → ℕ → ℕ
@@ -9,8 +12,7 @@ long_at v at = number_at v at * 65536 + number_at v (at + 2)
 
 -- the first n words of two bytes each
 unfoldable pub words_in : ℕ → List ℕ → List ℕ
-words_in zero l = []
-words_in (suc n) l = words_in n l ++ (number_at l (2 * n) ∷ [])
+words_in n l = map (λ i. number_at l (2 * i)) (range_with_len 0 n)
 
 -- n bytes from a place on
 abbrev pub part_of : ℕ → ℕ → List ℕ → List ℕ
@@ -47,10 +49,12 @@ ran_words v = number_at v 14
 abbrev pub zero_words : List ℕ → ℕ
 zero_words v = number_at v 16
 
--- ---- the answers as they are stated: six numbers for each call, 0 accept, 1 evaluate, 2 run
+-- ---- the answers as they are stated: six numbers for each call
 
-abbrev pub answer_place : ℕ → ℕ
-answer_place call = 18 + 24 * call
+abbrev pub answer_place : Call → ℕ
+answer_place Accept = 18
+answer_place Evaluate = 42
+answer_place Run = 66
 
 abbrev pub numbers_at : List ℕ → ℕ → List ℕ
 numbers_at v at =
@@ -98,8 +102,7 @@ abbrev pub marker : ℕ → ℕ → ℕ
 marker seed i = (40503 * i + 257 * seed + 1) % 65536
 
 unfoldable pub marks : ℕ → ℕ → List ℕ
-marks seed zero = []
-marks seed (suc n) = marks seed n ++ (marker seed n ∷ [])
+marks seed n = map (marker seed) (range_with_len 0 n)
 
 -- the words of the result buffer and of the working area before each call
 unfoldable pub result_lent : List ℕ → List ℕ

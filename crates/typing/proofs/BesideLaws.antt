@@ -1,4 +1,5 @@
 -- A concurrent part as the code walks it: into its sides, and out of them.
+use Rattle.std.specs.Prelude.{Err, Ok, Result, ℕ}
 use Prim.Native.Nat.{ℕ, suc, max, ◌+◌, ◌≤◌}
 use native.Mathlib.Omega.{arith}
 use mathlib.Core.Path.{◌≡◌, refl, sym, ap, ◌∙◌}
@@ -6,8 +7,6 @@ use mathlib.Core.Bool.{Bool}
 use mathlib.Core.List.{List}
 use lib.ListN.{length, get_or, set, length-set}
 use lib.Seq.{get_or-set_same, get_or-set_other}
-use Rattle.rules.specs.declared.Reading.{Reading}
-use Rattle.rules.specs.declared.Reading.TheVariants.{Next, Wrong}
 use Rattle.rules.specs.declared.Head.{Head}
 use Rattle.rules.specs.Codes.{operands_of}
 use Rattle.rules.specs.Reading.{read_operands, head, head_at, fields_of, tables_of}
@@ -21,9 +20,9 @@ use Rattle.typing.proofs.TallyLaws.{same_tally, entered, bared, met}
 use Rattle.typing.proofs.WalkLaws.{beside_stop, walk_beside}
 use Rattle.typing.proofs.CycleLaws.{stopped_left, told_off, told_on}
 
-module _ (s marks uses : List ℕ) (st d way : ℕ) (a : BesideAsked s marks uses st d way) (ops : Reading)
+module _ (s marks uses : List ℕ) (st d way : ℕ) (a : BesideAsked s marks uses st d way) (ops : Result ℕ ℕ)
     (eo : ops ≡ read_operands s (fields_of s) (tables_of s) 7 (place_in st)) (known : Within (length s) ops) where
-  pub beside_refused : (b r : ℕ) → ops ≡ Wrong b → r ≡ refused_at ops
+  pub beside_refused : (b r : ℕ) → ops ≡ Err b → r ≡ refused_at ops
       → Left s (open_of way) (walked s way (suc d) (tally_of st marks uses)) r marks uses
   unfolding Within
   beside_refused b r e q =
@@ -31,7 +30,7 @@ module _ (s marks uses : List ℕ) (st d way : ℕ) (a : BesideAsked s marks use
       stopped_left s (open_of way) b r (walked s way (suc d) (tally_of st marks uses)) marks uses
       (beside_stop s a.sound way d b (tally_of st marks uses) a.code a.free a.inside (sym eo ∙ e)) (q ∙ rw e) k
 
-  module _ (from : ℕ) (en : ops ≡ Next from) where
+  module _ (from : ℕ) (en : ops ≡ Ok from) where
     inside : (place_in st + 1 + operands_of 7 ≤ length s) × (from ≡ place_in st + 1 + operands_of 7)
     inside = let w = operands_were s (fields_of s) (tables_of s) 7 (place_in st) from (sym eo ∙ en) in (w.1, w.0)
 

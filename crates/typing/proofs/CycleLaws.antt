@@ -1,4 +1,5 @@
 -- Each answer of the walk from the answers below it, as the code has them.
+use Rattle.std.specs.Prelude.{Err, Ok, Result, ℕ}
 use Prim.Native.Nat.{ℕ, suc, max, ◌+◌, ◌-◌, ◌*◌, ◌<◌, ◌≤◌}
 use native.Mathlib.Omega.{arith}
 use mathlib.Core.Path.{◌≡◌, refl, sym, ap, ◌∙◌}
@@ -6,8 +7,6 @@ use mathlib.Core.Bool.{true, false}
 use mathlib.Core.Logic.{◌⊎◌, ⊎_elim}
 use mathlib.Core.List.{List, []}
 use lib.ListN.{length, get_or}
-use Rattle.rules.specs.declared.Reading.{Reading}
-use Rattle.rules.specs.declared.Reading.TheVariants.{Next, Wrong}
 use Rattle.rules.specs.Codes.{parts_of}
 use Rattle.rules.specs.Parts.{Part, Id, write, size, parts, deep}
 use Rattle.rules.specs.Typing.{wrongs}
@@ -101,11 +100,11 @@ module _ (s : List ℕ) (w st r : ℕ) (m u v : List ℕ) (k : Kept s (open_of w
   p : Part
   p = leaf_at s (place_in st)
 
-  leaf_going : (ro : Reading) → Leafed s st (leaf_at s (place_in st)) ro r → Noted (open_of w) (leaf_at s (place_in st)) ro u v
+  leaf_going : (ro : Result ℕ ℕ) → Leafed s st (leaf_at s (place_in st)) ro r → Noted (open_of w) (leaf_at s (place_in st)) ro u v
       → Left s (open_of w) (way_of ro (told (leaf_at s (place_in st)) (open_of w) (tally_of st m u))) r m v
   unfolding Left
-  leaf_going (Wrong a) l n = l
-  leaf_going (Next e) l n =
+  leaf_going (Err a) l n = l
+  leaf_going (Ok e) l n =
       let q = quiet_at s (place_in st) (place_in st) z in
       let f : get_or m 0 0 ≡ first_of (get_or m 0 0) (mark (wrongs (place_in st) (leaf_at s (place_in st))))
       = rw q.0 (sym (first_none (get_or m 0 0))) in

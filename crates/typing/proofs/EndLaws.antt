@@ -1,4 +1,5 @@
 -- The verdict from what stands after all bodies, and the numbers 1 to 4 before them.
+use Rattle.std.specs.Prelude.{Err, Ok}
 use Prim.Native.Nat.{ℕ, zero, suc, max, ◌+◌, ◌-◌, ◌<◌, ◌≤◌}
 use native.Mathlib.Omega.{arith}
 use native.Mathlib.Numerals.{add-one}
@@ -8,9 +9,7 @@ use mathlib.Core.List.{List, [], ◌∷◌}
 use lib.Dec.{leb}
 use lib.ListN.{length, get_or, replicate}
 use borrow.Author.Tests.{le-leb, leb-true, not-true, not-false}
-use Rattle.rules.specs.declared.Reading.TheVariants.{Wrong}
 use Rattle.rules.specs.declared.Reason.TheVariants.{BookLength, Counts, Lengths, EntryMasks, Form, Limits, Typing}
-use Rattle.rules.specs.declared.Verdict.TheVariants.{Accepted, Refused}
 use Rattle.rules.specs.Books.{Bytes, most_bytes, most_fields, most_tables, most_parts, most_beside, first_body, entries}
 use Rattle.rules.specs.Checks.{no_place, in_book}
 use Rattle.rules.specs.Reading.{fields_of, tables_of, body_start, masks_right, read_entries, policy_of, wrongs_in, misfits_in}
@@ -61,7 +60,7 @@ unfolding Ended
 ended_all s w z marks q t = rw q at t
 
 pub ended_off : (s : List ℕ) (w : Summed) (a : ℕ) (marks : List ℕ) → w ≡ Stop a → Ended s w marks
-    → read_entries s (suc (tables_of s)) 0 ≡ Wrong a
+    → read_entries s (suc (tables_of s)) 0 ≡ Err a
 unfolding Ended
 ended_off s w a marks q t = rw q at t
 
@@ -80,7 +79,7 @@ module _ (s : List ℕ) (F : Fronted s) where
   counts : CountsKept s
   counts = (F.fields.0, F.fields.1, F.tables)
 
-  pub form_refused : (a : ℕ) → read_entries s (suc (tables_of s)) 0 ≡ Wrong a → Refused (in_book Form a) ≡ verdict s
+  pub form_refused : (a : ℕ) → read_entries s (suc (tables_of s)) 0 ≡ Err a → Err (in_book Form a) ≡ verdict s
   form_refused a e = sym (refused_form s F.long counts F.lengths F.masks a e)
 
   module _ (z : Sums) (fault : ℕ) (E : Ends s z fault) where
@@ -94,11 +93,11 @@ module _ (s : List ℕ) (F : Fronted s) where
       form = (length s, E.form);
     }
 
-    pub many_parts : most_parts < z.parts → Refused (no_place Limits) ≡ verdict s
+    pub many_parts : most_parts < z.parts → Err (no_place Limits) ≡ verdict s
     many_parts h = sym (refused_limits s readable (λ k. omega (arith, k.0, E.count)))
 
     module _ (few : z.parts ≤ most_parts) where
-      pub too_deep : most_beside < z.deep → Refused (no_place Limits) ≡ verdict s
+      pub too_deep : most_beside < z.deep → Err (no_place Limits) ≡ verdict s
       too_deep h = sym (refused_limits s readable (λ k. omega (arith, k.1, E.down)))
 
       module _ (flat : z.deep ≤ most_beside) where
@@ -111,12 +110,12 @@ module _ (s : List ℕ) (F : Fronted s) where
             mark_append (wrongs_in (first_body (length (policy_of s).tables)) (entries (policy_of s)))
             (misfits_in (first_body (length (policy_of s).tables)) (entries (policy_of s))) ∙ rw (E.wrong, E.unfit)
 
-        refused_at_lem : (f : ℕ) → mark (typing_faults (policy_of s)) ≡ f → (f ≡ 0 → ⊥) → Refused (in_book Typing (f - 1)) ≡ verdict s
+        refused_at_lem : (f : ℕ) → mark (typing_faults (policy_of s)) ≡ f → (f ≡ 0 → ⊥) → Err (in_book Typing (f - 1)) ≡ verdict s
         refused_at_lem f e h =
             let k = marked_first (typing_faults (policy_of s)) f e h in
             sym (refused_typing s readable limits (f - 1) k.0 k.1)
 
-        pub wrong_part : (fault ≡ 0 → ⊥) → Refused (in_book Typing (fault - 1)) ≡ verdict s
+        pub wrong_part : (fault ≡ 0 → ⊥) → Err (in_book Typing (fault - 1)) ≡ verdict s
         wrong_part h = refused_at_lem fault (faults_are ∙ own fault h) h
           where
             own : (f : ℕ) → (f ≡ 0 → ⊥) → first_of f z.unfit ≡ f
@@ -127,11 +126,11 @@ module _ (s : List ℕ) (F : Fronted s) where
           then_unfit : mark (typing_faults (policy_of s)) ≡ z.unfit
           then_unfit = faults_are ∙ rw right
 
-          pub wrong_body_lem : (z.unfit ≡ 0 → ⊥) → Refused (in_book Typing (z.unfit - 1)) ≡ verdict s
+          pub wrong_body_lem : (z.unfit ≡ 0 → ⊥) → Err (in_book Typing (z.unfit - 1)) ≡ verdict s
           wrong_body_lem h = refused_at_lem z.unfit then_unfit h
 
           pub accepted : z.unfit ≡ 0 → (k m : ℕ) → k ≡ fields_of s → m ≡ tables_of s
-              → Accepted (record { fields = k; tables = m; parts = z.parts; deep = z.deep }) ≡ verdict s
+              → Ok (record { fields = k; tables = m; parts = z.parts; deep = z.deep }) ≡ verdict s
           unfolding sizes_of
           accepted h k m ek em =
               let passed : Passed s = record {
@@ -149,7 +148,7 @@ bounds : (a b c d : ℕ) → a ≤ b → c ≤ d → (leb a b && leb c d) ≡ tr
 bounds a b c d h k = rw (le-leb a b h) (le-leb c d k)
 
 module _ (s : List ℕ) (t1 : Bool) (e1 : t1 ≡ (leb 2 (length s) && leb (length s) most_bytes)) where
-  pub test_1 : not t1 ≡ true → Refused (no_place BookLength) ≡ verdict s
+  pub test_1 : not t1 ≡ true → Err (no_place BookLength) ≡ verdict s
   test_1 q =
       sym (refused_length s (λ k.
       absurd (true≢false (sym (bounds 2 (length s) (length s) most_bytes k.0 k.1) ∙ sym e1 ∙ not-true t1 q))))
@@ -161,7 +160,7 @@ module _ (s : List ℕ) (t1 : Bool) (e1 : t1 ≡ (leb 2 (length s) && leb (lengt
         let b = and_was (leb 2 (length s)) (leb (length s) most_bytes) (sym e1 ∙ not-false t1 q1) in
         (leb-true 2 (length s) b.0, leb-true (length s) most_bytes b.1)
 
-    pub test_2 : not t2 ≡ true → Refused (no_place Counts) ≡ verdict s
+    pub test_2 : not t2 ≡ true → Err (no_place Counts) ≡ verdict s
     test_2 q =
         sym (refused_counts s long (λ c.
         let t : (leb 1 k && (leb k most_fields && leb m most_tables)) ≡ true =
@@ -178,11 +177,11 @@ module _ (s : List ℕ) (t1 : Bool) (e1 : t1 ≡ (leb 2 (length s) && leb (lengt
       next_table : body_start s (suc (tables_of s)) ≡ e
       next_table = sym (e3 ∙ rw (add-one, em))
 
-      pub test_3 : (e ≡ length s → ⊥) → Refused (no_place Lengths) ≡ verdict s
+      pub test_3 : (e ≡ length s → ⊥) → Err (no_place Lengths) ≡ verdict s
       test_3 q = sym (refused_lengths s long few (λ l. q (sym next_table ∙ l)))
 
       module _ (q3 : e ≡ length s) (t4 : Bool) (e4 : t4 ≡ masks_right s (suc (tables_of s)) 0) where
-        pub test_4 : not t4 ≡ true → Refused (no_place EntryMasks) ≡ verdict s
+        pub test_4 : not t4 ≡ true → Err (no_place EntryMasks) ≡ verdict s
         test_4 q = sym (refused_masks s long few (next_table ∙ q3) (sym e4 ∙ not-true t4 q))
 
         pub fronted : not t4 ≡ false → Bytes s → Fronted s

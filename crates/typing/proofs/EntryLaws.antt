@@ -1,4 +1,5 @@
 -- The bodies in order as they are read: each answer from what was read before it.
+use Rattle.std.specs.Prelude.{Err, Ok, Result, ℕ}
 use Prim.Native.Nat.{ℕ, zero, suc, ◌+◌, ◌-◌, ◌<◌, ◌≤◌}
 use native.Mathlib.Omega.{arith}
 use mathlib.Core.Path.{◌≡◌, refl, sym, ◌∙◌}
@@ -7,17 +8,15 @@ use mathlib.Core.List.{List}
 use lib.ListN.{length, take}
 use borrow.Author.Tests.{ne_eqb}
 use Rattle.rules.specs.Books.{scope_of}
-use Rattle.rules.specs.declared.Reading.{Reading}
-use Rattle.rules.specs.declared.Reading.TheVariants.{Next, Wrong}
 use Rattle.rules.specs.Reading.{and_then, read_body, read_entry, read_entries, body_start, length_at, fields_of, tables_of}
 
 -- the body of an entry, by what its contents say
-module _ (s : List ℕ) (x at n k m : ℕ) (r : Reading) (ea : at ≡ body_start s x) (en : n ≡ length_at s x) where
-  pub entry_open : (x ≡ 0 → ⊥) → n ≡ 0 → Next at ≡ read_entry s x
+module _ (s : List ℕ) (x at n k m : ℕ) (r : Result ℕ ℕ) (ea : at ≡ body_start s x) (en : n ≡ length_at s x) where
+  pub entry_open : (x ≡ 0 → ⊥) → n ≡ 0 → Ok at ≡ read_entry s x
   unfolding read_entry
   entry_open h z = go x ea (sym en ∙ z) h
     where
-      go : (x : ℕ) → at ≡ body_start s x → length_at s x ≡ 0 → (x ≡ 0 → ⊥) → Next at ≡ read_entry s x
+      go : (x : ℕ) → at ≡ body_start s x → length_at s x ≡ 0 → (x ≡ 0 → ⊥) → Ok at ≡ read_entry s x
       go zero e l h = absurd (h refl)
       go (suc x) e l h = rw (l, e)
 
@@ -33,7 +32,7 @@ module _ (s : List ℕ) (x at n k m : ℕ) (r : Reading) (ea : at ≡ body_start
 
 -- the bodies in order
 module _ (s : List ℕ) (n x : ℕ) where
-  pub entries_end : n ≤ x → read_entries s (n - x) x ≡ Next (length s)
+  pub entries_end : n ≤ x → read_entries s (n - x) x ≡ Ok (length s)
   unfolding read_entries
   entries_end h = let e : n - x ≡ 0 = omega arith in rw e
 
@@ -44,9 +43,9 @@ module _ (s : List ℕ) (n x : ℕ) where
       let f : suc x ≡ x + 1 = omega arith in
       rw (e, ← f)
 
-  module _ (b : Reading) (h : x < n) (eb : b ≡ read_entry s x) where
-    pub entries_stop : (r : ℕ) → b ≡ Wrong r → read_entries s (n - x) x ≡ b
+  module _ (b : Result ℕ ℕ) (h : x < n) (eb : b ≡ read_entry s x) where
+    pub entries_stop : (r : ℕ) → b ≡ Err r → read_entries s (n - x) x ≡ b
     entries_stop r q = entries_more h ∙ rw (← eb, q)
 
-    pub entries_step : (a : ℕ) → b ≡ Next a → read_entries s (n - x) x ≡ read_entries s (n - (x + 1)) (x + 1)
+    pub entries_step : (a : ℕ) → b ≡ Ok a → read_entries s (n - x) x ≡ read_entries s (n - (x + 1)) (x + 1)
     entries_step a q = entries_more h ∙ rw (← eb, q)

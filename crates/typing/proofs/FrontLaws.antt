@@ -1,4 +1,5 @@
 -- A body is walked in the front of the book that ends with it: what is read and decoded there is what the book says.
+use Rattle.std.specs.Prelude.{Ok}
 use Prim.Native.Nat.{ℕ, ◌+◌, ◌*◌, ◌/◌, ◌%◌, ◌<◌, ◌≤◌}
 use native.Mathlib.Omega.{arith}
 use mathlib.Core.Path.{◌≡◌, sym, ◌∙◌}
@@ -7,7 +8,6 @@ use mathlib.Core.List.{List}
 use lib.ListN.{length, get_or, take, drop}
 use lib.Seq.{get_or-take, length-take-le}
 use borrow.Author.Tests.{ne_eqb}
-use Rattle.rules.specs.declared.Reading.TheVariants.{Next}
 use Rattle.rules.specs.Books.{Scope, scope_of, first_body, Fine, most_fields, most_tables, most_bytes, Bytes}
 use Rattle.rules.specs.Reading.{read_part, part_at, fields_of, tables_of, reads_at, writes_at}
 use Rattle.rules.proofs.Decoding.{bytes_take, unpopulated, Names, read, reads, read_front}
@@ -34,7 +34,7 @@ module _ (s : List ℕ) (e : ℕ) (h : first_body (tables_of s) ≤ e) where
 
   -- a part that is read in the front is decoded there as in the book
   pub front_part : Bytes s → (c : Scope) → c.tables ≡ tables_of s → (d : ℕ) (pred : Bool) (at a : ℕ)
-      → read_part (take e s) c d pred at ≡ Next a
+      → read_part (take e s) c d pred at ≡ Ok a
       → (part_at (take e s) (shut (take e s)) d at ≡ part_at s (shut s) d at) × Fine c (shut s) d pred (part_at s (shut s) d at)
   front_part small c t d pred at a q =
       let f = take e s in

@@ -1,4 +1,5 @@
 -- Answers taken apart, and a part with no parts below it.
+use Rattle.std.specs.Prelude.{Err, Ok, Result, ℕ}
 use Prim.Native.Nat.{ℕ, zero, suc, ◌+◌, ◌*◌, ◌/◌, ◌%◌, ◌<◌, ◌≤◌}
 use native.Mathlib.Omega.{arith}
 use mathlib.Core.Path.{◌≡◌, refl, sym, ap, ◌∙◌}
@@ -10,8 +11,6 @@ use lib.Dec.{eqb}
 use lib.ListN.{length, get_or}
 use borrow.Author.Tests.{eq-eqb, ne_eqb, eqb-true, eqb-false, not-false}
 use Rattle.rules.specs.declared.Head.{Head}
-use Rattle.rules.specs.declared.Reading.{Reading}
-use Rattle.rules.specs.declared.Reading.TheVariants.{Next, Wrong}
 use Rattle.rules.specs.declared.Shape.{Shape}
 use Rattle.rules.specs.Codes.{shape_at, operands_of, parts_of}
 use Rattle.rules.specs.Masks.{field}
@@ -36,20 +35,20 @@ off_small w a e h = rw e at h
 pub off_wired : (w : Walked) (a n : ℕ) → w ≡ Off a → n ≡ a * 65536 → n ≡ wired w
 off_wired w a n e h = h ∙ rw e
 
-pub wrong_small : (r : Reading) (a : ℕ) → r ≡ Wrong a → WrongWithin r → a ≤ most_bytes
+pub wrong_small : (r : Result ℕ ℕ) (a : ℕ) → r ≡ Err a → WrongWithin r → a ≤ most_bytes
 wrong_small r a e h = rw e at h
 
-pub wrong_refused : (r : Reading) (a n : ℕ) → r ≡ Wrong a → n ≡ a * 65536 → n ≡ refused_at r
+pub wrong_refused : (r : Result ℕ ℕ) (a n : ℕ) → r ≡ Err a → n ≡ a * 65536 → n ≡ refused_at r
 wrong_refused r a n e h = h ∙ rw e
 
 -- a refusal by the operands
-pub wrong_within : (s : List ℕ) (a : ℕ) (r : Reading) → length s ≤ most_bytes → r ≡ Wrong a → Within (length s) r → WrongWithin r
+pub wrong_within : (s : List ℕ) (a : ℕ) (r : Result ℕ ℕ) → length s ≤ most_bytes → r ≡ Err a → Within (length s) r → WrongWithin r
 unfolding Within
 wrong_within s a r h e w =
     let v : a ≤ length s = rw e at w in
     rw e (omega (arith, v))
 
-pub leafed_wrong : (s : List ℕ) (st a n : ℕ) (p : Part) (r ro : Reading) → r ≡ ro → r ≡ Wrong a → Within (length s) r → n ≡ refused_at r
+pub leafed_wrong : (s : List ℕ) (st a n : ℕ) (p : Part) (r ro : Result ℕ ℕ) → r ≡ ro → r ≡ Err a → Within (length s) r → n ≡ refused_at r
     → Leafed s st p ro n
 unfolding Within
 leafed_wrong s st a n p r ro q e w z =
@@ -57,8 +56,8 @@ leafed_wrong s st a n p r ro q e w z =
     rw (← q, e) (z ∙ rw e, v)
 
 -- what the masks and the place of a part with no parts below it come to, once its operands are read
-pub leafed_next : (s : List ℕ) (st y z t w code e : ℕ) (p : Part) (r : Reading)
-    → r ≡ read_operands s (fields_of s) (tables_of s) code (place_in st) → r ≡ Next e → Masked st t w y → Moved y (operands_of code) z
+pub leafed_next : (s : List ℕ) (st y z t w code e : ℕ) (p : Part) (r : Result ℕ ℕ)
+    → r ≡ read_operands s (fields_of s) (tables_of s) code (place_in st) → r ≡ Ok e → Masked st t w y → Moved y (operands_of code) z
     → size p ≡ 1 + operands_of code → parts p ≡ 1 → tested p ≡ t → written p ≡ w
     → Leafed s st p (read_operands s (fields_of s) (tables_of s) code (place_in st)) z
 leafed_next s st y z t w code e p r q re m v hs hp ht hw =
@@ -109,7 +108,7 @@ leaf_read_lem s c d pred at code e h st z =
     (then_next (read_operands s c.fields c.tables code at))
 
 pub leaf_stop : (s : List ℕ) (c : Scope) (d : ℕ) (pred : Bool) (at : ℕ) → at < length s → stands c.main pred (get_or s at 0) ≡ false
-    → read_part s c d pred at ≡ Wrong at
+    → read_part s c d pred at ≡ Err at
 leaf_stop s c d pred at h st = part_wrong s c d pred at at (sym (byte_wrong s (stands c.main pred) at h st))
 
 leaf_part : (s : List ℕ) (at code : ℕ) → get_or s at 0 ≡ code → leaf_at s at ≡ built (head s at) (shut s) code Id Id
@@ -132,10 +131,10 @@ module _ (s : List ℕ) (st way code r : ℕ) (u v : List ℕ) (e : get_or s (pl
   leaf_off not-here z = rw (leaf_stop s (scope_at s way) 1 (pred_of way) (place_in st) h (rw e not-here)) ((z, omega arith), tt)
 
 -- a test and a set note no use
-field_noted : (s : List ℕ) (at o code : ℕ) (u : List ℕ) (ro : Reading) → 2 ≤ code → code < 4
+field_noted : (s : List ℕ) (at o code : ℕ) (u : List ℕ) (ro : Result ℕ ℕ) → 2 ≤ code → code < 4
     → Noted o (built (head s at) (shut s) code Id Id) ro u u
-field_noted s at o code u (Next e) h l = (sym ((field_is (head s at) (shut s) code h l).4 o u), refl, λ n y a b h. omega (arith, h y))
-field_noted s at o code u (Wrong a) h l = tt
+field_noted s at o code u (Ok e) h l = (sym ((field_is (head s at) (shut s) code h l).4 o u), refl, λ n y a b h. omega (arith, h y))
+field_noted s at o code u (Err a) h l = tt
 
 pub field_on : (s : List ℕ) (st way code r : ℕ) (u : List ℕ) → 2 ≤ code → code < 4
     → let p = built (head s (place_in st)) (shut s) code Id Id in
@@ -144,7 +143,7 @@ pub field_on : (s : List ℕ) (st way code r : ℕ) (u : List ℕ) → 2 ≤ cod
 field_on s st way code r u lo up w =
     (w, field_noted s (place_in st) (open_of way) code u (read_operands s (fields_of s) (tables_of s) code (place_in st)) lo up)
 
-pub use_noted : (s : List ℕ) (at o e : ℕ) (u v : List ℕ) (r ro : Reading) → r ≡ ro → r ≡ Next e → v ≡ note_use (head s at).table o u
+pub use_noted : (s : List ℕ) (at o e : ℕ) (u v : List ℕ) (r ro : Result ℕ ℕ) → r ≡ ro → r ≡ Ok e → v ≡ note_use (head s at).table o u
     → (head s at).table < 16 → Noted o (built (head s at) (shut s) 8 Id Id) ro u v
 use_noted s at o e u v r ro q re h l =
     rw (← q, re) (
@@ -154,8 +153,8 @@ use_noted s at o e u v r ro q re h l =
     )
 
 -- a test or a set, once its operands are read: b is its field's mask, in T or in M
-pub field_left : (s : List ℕ) (st y z e b t w code : ℕ) (h : Head) {r : Reading} → 2 ≤ code → code < 4 → h ≡ head s (place_in st)
-    → r ≡ read_operands s (fields_of s) (tables_of s) code (place_in st) → r ≡ Next e → b ≡ field h.field
+pub field_left : (s : List ℕ) (st y z e b t w code : ℕ) (h : Head) {r : Result ℕ ℕ} → 2 ≤ code → code < 4 → h ≡ head s (place_in st)
+    → r ≡ read_operands s (fields_of s) (tables_of s) code (place_in st) → r ≡ Ok e → b ≡ field h.field
     → t ≡ cond (eqb code 2) b 0 → w ≡ cond (eqb code 3) b 0 → Masked st t w y → Moved y (operands_of code) z
     → Leafed s st (built (head s (place_in st)) (shut s) code Id Id) (read_operands s (fields_of s) (tables_of s) code (place_in st)) z
 field_left s st y z e b t w code h {r} lo up eh q re eb et ew m v =
@@ -165,8 +164,8 @@ field_left s st y z e b t w code h {r} lo up eh q re eb et ew m v =
     (i.2 ∙ ap (λ (x : ℕ). cond (eqb code 2) x 0) (sym bit) ∙ sym et) (i.3 ∙ ap (λ (x : ℕ). cond (eqb code 3) x 0) (sym bit) ∙ sym ew)
 
 -- a use of a table may be noted
-pub note_asked : (s u : List ℕ) (st e : ℕ) {way : ℕ} {h : Head} {r : Reading} → h ≡ head s (place_in st)
-    → r ≡ read_operands s (fields_of s) (tables_of s) 8 (place_in st) → r ≡ Next e → LeafAsked s u st way
+pub note_asked : (s u : List ℕ) (st e : ℕ) {way : ℕ} {h : Head} {r : Result ℕ ℕ} → h ≡ head s (place_in st)
+    → r ≡ read_operands s (fields_of s) (tables_of s) 8 (place_in st) → r ≡ Ok e → LeafAsked s u st way
     → (length u ≡ 32) × (h.table < 16) × (get_or u h.table 0 < 65535)
 note_asked s u st e {h = h} eh q re a =
     let k = use_known s (fields_of s) (tables_of s) (place_in st) e (sym q ∙ re) in
@@ -174,8 +173,8 @@ note_asked s u st e {h = h} eh q re a =
     (a.room, omega (arith, x, k.1, a.sound.tables), omega (arith, a.few h.table, a.sound.size, a.inside))
 
 -- a use of a table, once its operand is read
-pub use_left : (s : List ℕ) (st y z o level e : ℕ) (u v : List ℕ) (h : Head) {r : Reading} → h ≡ head s (place_in st)
-    → r ≡ read_operands s (fields_of s) (tables_of s) 8 (place_in st) → r ≡ Next e → tables_of s ≤ most_tables → level ≡ o
+pub use_left : (s : List ℕ) (st y z o level e : ℕ) (u v : List ℕ) (h : Head) {r : Result ℕ ℕ} → h ≡ head s (place_in st)
+    → r ≡ read_operands s (fields_of s) (tables_of s) 8 (place_in st) → r ≡ Ok e → tables_of s ≤ most_tables → level ≡ o
     → v ≡ note_use h.table level u
     → Masked st (bit_or (reads_at s h.table) (writes_at s h.table)) (writes_at s h.table) y → Moved y (operands_of 8) z
     → let p = built (head s (place_in st)) (shut s) 8 Id Id in
@@ -188,7 +187,7 @@ use_left s st y z o level e u v h {r} eh q re few el ev m w =
       use_noted s (place_in st) o e u v r _ q re (ev ∙ rw (eh, el)) (omega (arith, k.1)),
     )
 
-pub wrong_noted : (s : List ℕ) (o a : ℕ) (p : Part) (u v : List ℕ) (r ro : Reading) → r ≡ ro → r ≡ Wrong a → Noted o p ro u v
+pub wrong_noted : (s : List ℕ) (o a : ℕ) (p : Part) (u v : List ℕ) (r ro : Result ℕ ℕ) → r ≡ ro → r ≡ Err a → Noted o p ro u v
 wrong_noted s o a p u v r ro q re = rw (← q, re) tt
 
 -- id and drop

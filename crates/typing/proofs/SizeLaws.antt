@@ -1,4 +1,5 @@
 -- n and D of a book from its main body, walked once with nothing noted before it, and the parts and depths of its tables' bodies.
+use Rattle.std.specs.Prelude.{Ok}
 use Prim.Native.Nat.{ℕ, zero, suc, max, ◌+◌, ◌≤◌}
 use native.Mathlib.Omega.{arith}
 use native.Mathlib.Nat.{zero-mul}
@@ -7,7 +8,6 @@ use mathlib.Core.Bool.{true, false}
 use mathlib.Core.List.{List}
 use mathlib.Core.Option.{Option, none, some}
 use lib.ListN.{length, get_or, take}
-use Rattle.rules.specs.declared.Reading.TheVariants.{Next}
 use Rattle.rules.specs.Parts.{Part, parts, deep}
 use Rattle.rules.specs.Books.{scope_of, first_body, use_of, most_depth, most_tables, Bytes}
 use Rattle.rules.specs.Reading.{read_part, part_at, fields_of, tables_of, reads_at, writes_at, body_start, body_at, use_at, main_of}
@@ -38,7 +38,7 @@ module _ (l : List ℕ) (z : (x : ℕ) → get_or l x 0 ≡ 0) where
 
 module _ (s : List ℕ) (small : Bytes s) (m : tables_of s ≤ most_tables) (e : ℕ) (h : first_body (tables_of s) ≤ e) (st : ℕ) (n v m0 u0 : List ℕ)
     (len : length u0 ≡ 32) (zero-marks : get_or m0 1 0 ≡ 0) (zero-uses : (x : ℕ) → get_or u0 x 0 ≡ 0) (a : ℕ)
-    (read : read_part (take e s) (scope_of (fields_of s) (tables_of s) true) most_depth false (body_start s 0) ≡ Next a)
+    (read : read_part (take e s) (scope_of (fields_of s) (tables_of s) true) most_depth false (body_start s 0) ≡ Ok a)
     (none_yet : parts_in (body_start s 0) ≡ 0)
     (walk : tally_of st n v ≡ told (part_at (take e s) (shut (take e s)) most_depth (body_start s 0)) 0 (tally_of (body_start s 0) m0 u0)) where
   same : tally_of st n v ≡ told (part_at s (shut s) most_depth (body_start s 0)) 0 (tally_of (body_start s 0) m0 u0)

@@ -1,10 +1,10 @@
 -- A table's body, walked in the front of the book that ends with it, is the body that the book says.
+use Rattle.std.specs.Prelude.{Ok}
 use Prim.Native.Nat.{ℕ, zero, suc, ◌≤◌}
 use mathlib.Core.Path.{◌≡◌, refl, sym, ◌∙◌}
 use mathlib.Core.Bool.{Bool, true, false, false≢true}
 use mathlib.Core.List.{List}
 use lib.ListN.{take, drop}
-use Rattle.rules.specs.declared.Reading.TheVariants.{Next}
 use Rattle.rules.specs.Parts.{Part, Id, Drop, Test, Set, Not, Sum, Seq, Beside, Table, Open}
 use Rattle.rules.specs.Books.{scope_of, first_body, no_use, Fine, most_depth, Bytes}
 use Rattle.rules.specs.Reading.{read_part, part_at, fields_of, tables_of}
@@ -31,7 +31,7 @@ fine_none k m n n' (suc d) pred (Table x r w start p) f = absurd (false≢true f
 fine_none k m n n' (suc d) pred (Open x r w) f = absurd (false≢true f.1)
 
 pub table_part : (s : List ℕ) (e : ℕ) → first_body (tables_of s) ≤ e → Bytes s → (start a : ℕ)
-    → read_part (take e s) (scope_of (fields_of s) (tables_of s) false) most_depth false start ≡ Next a
+    → read_part (take e s) (scope_of (fields_of s) (tables_of s) false) most_depth false start ≡ Ok a
     → part_at (take e s) (shut (take e s)) most_depth start ≡ part_at s no_use most_depth start
 table_part s e h small start a q =
     let k = fields_of s in

@@ -1,4 +1,5 @@
 -- One body after another: what stands after the main body, and after a table's.
+use Rattle.std.specs.Prelude.{Err, Ok, Result, ℕ}
 use Prim.Native.Nat.{ℕ, suc, max, ◌+◌, ◌*◌, ◌-◌, ◌<◌, ◌≤◌}
 use native.Mathlib.Omega.{arith}
 use native.Mathlib.Nat.{zero-mul, mul-zero}
@@ -11,8 +12,6 @@ use lib.Dec.{eqb}
 use lib.ListN.{length, get_or, take, set, length-set}
 use lib.Seq.{get_or-set_same, get_or-set_other, length-take-le}
 use borrow.Author.Tests.{eq-eqb, ne_eqb}
-use Rattle.rules.specs.declared.Reading.{Reading}
-use Rattle.rules.specs.declared.Reading.TheVariants.{Next, Wrong}
 use Rattle.rules.specs.Parts.{Part, size, parts, deep}
 use Rattle.rules.specs.Typing.{fits, fit_masks, wrongs}
 use Rattle.rules.specs.Books.{Scope, scope_of, Fine, bytes_of, first_body, no_use, most_depth, most_bytes}
@@ -96,8 +95,8 @@ module _ (s : List ℕ) (F : Fronted s) where
     p = part_at s (shut s) most_depth (body_start s 0)
 
     record Main : Type 0 where
-      read : (a : ℕ) × (read_body (take (body_start s 1) s) c (body_start s 0) ≡ Next a)
-      part : (a : ℕ) × (read_part (take (body_start s 1) s) c most_depth false (body_start s 0) ≡ Next a)
+      read : (a : ℕ) × (read_body (take (body_start s 1) s) c (body_start s 0) ≡ Ok a)
+      part : (a : ℕ) × (read_part (take (body_start s 1) s) c most_depth false (body_start s 0) ≡ Ok a)
       told : Found p (body_start s 0) st m u n v
       fine : Fine c (shut s) most_depth false p
       ends : body_start s 1 ≡ body_start s 0 + size (main_of s)
@@ -114,8 +113,8 @@ module _ (s : List ℕ) (F : Fronted s) where
         let E : ℕ = body_start s 1 in
         let f : List ℕ = take E s in
         let h = above 1 in
-        let q : read_body f c A ≡ Next (length f) = rw (front_scope s E h 0) at b.0 in
-        let w = then_was (read_part f c most_depth false A) (λ a. cond (eqb a (length f)) (Next a) (Wrong a)) (length f) q in
+        let q : read_body f c A ≡ Ok (length f) = rw (front_scope s E h 0) at b.0 in
+        let w = then_was (read_part f c most_depth false A) (λ a. cond (eqb a (length f)) (Ok a) (Err a)) (length f) q in
         let g = front_part s E h F.bytes c refl most_depth false A w.0 w.1 in
         let tally : tally_of st n v ≡ told p 0 (tally_of A m u) = rw g.0 at b.1 in
         let small : A ≤ most_bytes = omega (arith, starts_up s 0 1 (omega arith), in_book_lem 0 (omega arith), F.long.1) in
@@ -197,7 +196,7 @@ module _ (s : List ℕ) (F : Fronted s) where
         let e : Body (take (body_start s 1) s) 0 (body_start s 0) (tally_of (body_start s 0) m u) (Off a) i v
         = subst (λ (w : Walked). Body (take (body_start s 1) s) 0 (body_start s 0) (tally_of (body_start s 0) m u) w i v) q
         (entry_body 0 0 (omega arith) at n ea en m u w i v b) in
-        let r : read_body (take (body_start s 1) s) (scope_of (fields_of s) (tables_of s) true) (body_start s 0) ≡ Wrong a
+        let r : read_body (take (body_start s 1) s) (scope_of (fields_of s) (tables_of s) true) (body_start s 0) ≡ Err a
         = rw (front_scope s (body_start s 1) (above 1) 0) at e in
         rw r
 
@@ -216,7 +215,7 @@ module _ (s : List ℕ) (F : Fronted s) where
     not_main : y ≡ 0 → ⊥
     not_main q = absurd (omega arith)
 
-    step : (r : Reading) (a : ℕ) → r ≡ read_entry s y → r ≡ Next a
+    step : (r : Result ℕ ℕ) (a : ℕ) → r ≡ read_entry s y → r ≡ Ok a
         → read_entries s (suc (tables_of s)) 0 ≡ read_entries s (suc (tables_of s) - suc y) (suc y)
     step r a e q = so.form ∙ rw add-one at (entries_step s (suc (tables_of s)) y r (omega arith) e a q)
 
@@ -247,7 +246,7 @@ module _ (s : List ℕ) (F : Fronted s) where
           two = so.two;
           room = so.room;
           few = so.few;
-          form = step (Next z.at) z.at (entry_open s y z.at n 0 0 (Next 0) so.place en not_main q) refl;
+          form = step (Ok z.at) z.at (entry_open s y z.at n 0 0 (Ok 0) so.place en not_main q) refl;
           small = omega (arith, so.small);
           levels = so.levels;
           count = so.count ∙ ap (λ (i : ℕ). so.own + i) (sym t);
@@ -269,7 +268,7 @@ module _ (s : List ℕ) (F : Fronted s) where
     -- one that is
     module _ (n : ℕ) (en : n ≡ length_at s y) (full : n ≡ 0 → ⊥) (w : Walked) (i v : List ℕ)
         (b : Body (take (z.at + n) s) 1 z.at (tally_of z.at (set m 1 0) u) w i v) where
-      entry_is : (r : Reading) → r ≡ read_body (take (body_start s (suc y)) s) (scope_of (fields_of s) (tables_of s) false) (body_start s y)
+      entry_is : (r : Result ℕ ℕ) → r ≡ read_body (take (body_start s (suc y)) s) (scope_of (fields_of s) (tables_of s) false) (body_start s y)
           → r ≡ read_entry s y
       entry_is r e =
           let at : body_start s y + length_at s y ≡ body_start s (suc y) = sym (start_next s y) in
@@ -285,16 +284,16 @@ module _ (s : List ℕ) (F : Fronted s) where
           let e : Body (take (body_start s (suc y)) s) 1 (body_start s y) (tally_of (body_start s y) (set m 1 0) u) (Off a) i v
           = subst (λ (w : Walked). Body (take (body_start s (suc y)) s) 1 (body_start s y) (tally_of (body_start s y) (set m 1 0) u) w i v) q
           moved in
-          let r : read_body (take (body_start s (suc y)) s) (scope_of (fields_of s) (tables_of s) false) (body_start s y) ≡ Wrong a
+          let r : read_body (take (body_start s (suc y)) s) (scope_of (fields_of s) (tables_of s) false) (body_start s y) ≡ Err a
           = rw (front_scope s (body_start s (suc y)) (above (suc y)) 1) at e in
-          so.form ∙ entries_stop s (suc (tables_of s)) y (Wrong a) (omega arith) (entry_is (Wrong a) (sym r)) a refl
+          so.form ∙ entries_stop s (suc (tables_of s)) y (Err a) (omega arith) (entry_is (Err a) (sym r)) a refl
 
       module _ (st : ℕ) (q : w ≡ On st) where
         P : Part
         P = part_at s no_use most_depth (body_start s y)
 
         record One : Type 0 where
-          read : (a : ℕ) × (Next a ≡ read_entry s y)
+          read : (a : ℕ) × (Ok a ≡ read_entry s y)
           told : Found P (body_start s y) st (set m 1 0) u i v
           same : v ≡ u
           body : body_at s y ≡ some P
@@ -312,8 +311,8 @@ module _ (s : List ℕ) (F : Fronted s) where
             let le = in_book_lem y hi in
             let e : Body f 1 A (tally_of A (set m 1 0) u) (On st) i v
             = subst (λ (w : Walked). Body f 1 A (tally_of A (set m 1 0) u) w i v) q moved in
-            let r : read_body f c A ≡ Next (length f) = rw (front_scope s E h 1) at e.0 in
-            let g = then_was (read_part f c most_depth false A) (λ a. cond (eqb a (length f)) (Next a) (Wrong a)) (length f) r in
+            let r : read_body f c A ≡ Ok (length f) = rw (front_scope s E h 1) at e.0 in
+            let g = then_was (read_part f c most_depth false A) (λ a. cond (eqb a (length f)) (Ok a) (Err a)) (length f) r in
             let tp = table_part s E h F.bytes A g.0 g.1 in
             let tally : tally_of st i v ≡ told P 0 (tally_of A (set m 1 0) u) = rw tp at e.1 in
             let small : A ≤ most_bytes = omega (arith, starts_up s y (suc y) (omega arith), le, F.long.1) in
@@ -321,7 +320,7 @@ module _ (s : List ℕ) (F : Fronted s) where
             let br = body_read s F.bytes c no_use (names_none (fields_of s) (tables_of s) no_use) A E (length f) le r in
             let has : body_at s y ≡ some P = rw (ne_eqb (length_at s y) 0 (λ j. full (en ∙ j))) in
             record {
-              read = (length f, entry_is (Next (length f)) (sym r));
+              read = (length f, entry_is (Ok (length f)) (sym r));
               told = t;
               same = t.uses ∙ none_noted (fields_of s) (tables_of s) no_use most_depth false P 0 u br.3;
               body = has;
@@ -361,7 +360,7 @@ module _ (s : List ℕ) (F : Fronted s) where
               two = g.two;
               room = rw g.same so.room;
               few = rw g.same (λ j. omega (arith, so.few j, so.place, xa, starts_up s y (suc y) (omega arith)));
-              form = step (Next g.read.0) g.read.0 g.read.1 refl;
+              form = step (Ok g.read.0) g.read.0 g.read.1 refl;
               small = omega (arith, xs, so.small);
               levels = rw g.same so.levels;
               count = omega (arith, xp, sp, tn);

@@ -1,4 +1,5 @@
 -- The walk of a part by its code: each answer from the walks below it.
+use Rattle.std.specs.Prelude.{Err, Ok, Result, ℕ}
 use Prim.Native.Nat.{ℕ, zero, suc, ◌+◌, ◌-◌, ◌/◌, ◌%◌, ◌<◌, ◌≤◌}
 use native.Mathlib.Omega.{arith}
 use mathlib.Core.Path.{◌≡◌, refl, sym, ap, ◌∙◌}
@@ -7,8 +8,6 @@ use mathlib.Core.Logic.{inr}
 use mathlib.Core.List.{List}
 use lib.Dec.{eqb}
 use lib.ListN.{length, get_or}
-use Rattle.rules.specs.declared.Reading.{Reading}
-use Rattle.rules.specs.declared.Reading.TheVariants.{Next, Wrong}
 use Rattle.rules.specs.Codes.{operands_of, parts_of}
 use Rattle.rules.specs.Parts.{Part, Id, Not, Sum, Seq, Beside, size}
 use Rattle.rules.specs.Books.{Scope, Bytes}
@@ -112,9 +111,9 @@ module _ (s : List ℕ) (sound : Sound s) (way : ℕ) where
   unfolding shut
   names h x l u = unpopulated (reads_at s x) (writes_at s x)
 
-  then_same : (f : ℕ → Reading) (r : Reading) → and_then r (read_times 1 f) ≡ and_then r f
-  then_same f (Next m) = then_next (f m)
-  then_same f (Wrong a) = refl
+  then_same : (f : ℕ → Result ℕ ℕ) (r : Result ℕ ℕ) → and_then r (read_times 1 f) ≡ and_then r f
+  then_same f (Ok m) = then_next (f m)
+  then_same f (Err a) = refl
 
   two_read : (d at code : ℕ) → get_or s at 0 ≡ code → operands_of code ≡ 0 → parts_of code ≡ 2 → eqb code 4 ≡ false
       → stands (in_main way) (pred_of way) code ≡ true → at < length s
@@ -152,12 +151,12 @@ module _ (s : List ℕ) (sound : Sound s) (way : ℕ) where
       part : part_at s (shut s) (suc d) t.at ≡ g p q
       part = two_part s (shut s) d t.at code e n0 ∙ bg p q
 
-      go : (r : Reading) → read_part s c d (pred_of way) (t.at + 1 + 0) ≡ r
+      go : (r : Result ℕ ℕ) → read_part s c d (pred_of way) (t.at + 1 + 0) ≡ r
           → way_of (and_then r (read_part s c d (pred_of way))) (told q o (told p o (stepped 0 t)))
           ≡ and_on (way_of r (told p o (stepped 0 t)))
           (λ u. way_of (read_part s c d (pred_of way) u.at) (told (part_at s (shut s) d u.at) (open_of way) u))
-      go (Wrong a) w = refl
-      go (Next m) w =
+      go (Err a) w = refl
+      go (Ok m) w =
           let g = read s bytes c (shut s) names d (pred_of way) (t.at + 1 + 0) m w in
           let n : t.at + 1 + 0 + size p ≡ m = sym (read_end s c (shut s) d (pred_of way) (t.at + 1 + 0) m g) in
           rw (n, g.0)
@@ -188,7 +187,7 @@ module _ (s : List ℕ) (sound : Sound s) (way : ℕ) where
       rw (← byte_next s (stands (in_main way) (pred_of way)) at h st, e)
 
   pub beside_stop : (d a : ℕ) (t : Tally) → get_or s t.at 0 ≡ 7 → pred_of way ≡ false → t.at < length s
-      → read_operands s (fields_of s) (tables_of s) 7 t.at ≡ Wrong a → walked s way (suc d) t ≡ Stopped a
+      → read_operands s (fields_of s) (tables_of s) 7 t.at ≡ Err a → walked s way (suc d) t ≡ Stopped a
   unfolding walked
   beside_stop d a t e ep h w = rw (beside_read d t.at e ep h, w)
 
@@ -206,7 +205,7 @@ module _ (s : List ℕ) (sound : Sound s) (way : ℕ) where
   beside_part_is d at e = rw e
 
   pub walk_beside : (d e : ℕ) (t : Tally) → get_or s t.at 0 ≡ 7 → pred_of way ≡ false → t.at < length s
-      → read_operands s (fields_of s) (tables_of s) 7 t.at ≡ Next e → e ≡ t.at + 1 + operands_of 7
+      → read_operands s (fields_of s) (tables_of s) 7 t.at ≡ Ok e → e ≡ t.at + 1 + operands_of 7
       → walked s way (suc d) t
       ≡ and_on (walked s (way + 4) d (entered (open_of way) t)) (λ l. and_on (walked s (way + 4) d (bared l))
       (λ r. Going (met (head s t.at).left (head s t.at).right t l r)))
@@ -218,7 +217,7 @@ module _ (s : List ℕ) (sound : Sound s) (way : ℕ) where
       c : Scope
       c = scope_at s way
 
-      f : ℕ → Reading
+      f : ℕ → Result ℕ ℕ
       f = read_part s c d (pred_of way)
 
       wp : ℕ
@@ -242,19 +241,19 @@ module _ (s : List ℕ) (sound : Sound s) (way : ℕ) where
       all : Tally
       all = met wp wq t l (told q (suc o) (bared l))
 
-      second : (m : ℕ) (r : Reading)
-          → way_of (and_then r (λ x. Next x)) all ≡ and_on (way_of r (told q (suc o) (bared l))) (λ u. Going (met wp wq t l u))
-      second m (Wrong a) = refl
-      second m (Next a) = refl
+      second : (m : ℕ) (r : Result ℕ ℕ)
+          → way_of (and_then r (λ x. Ok x)) all ≡ and_on (way_of r (told q (suc o) (bared l))) (λ u. Going (met wp wq t l u))
+      second m (Err a) = refl
+      second m (Ok a) = refl
 
-      go : (r : Reading) → f (t.at + 1 + operands_of 7) ≡ r
+      go : (r : Result ℕ ℕ) → f (t.at + 1 + operands_of 7) ≡ r
           → way_of (and_then r (read_times 1 f)) all
           ≡ and_on (way_of r l) (λ u. and_on (way_of (f u.at) (told (part_at s (shut s) d u.at) (suc o) (bared u)))
           (λ v. Going (met wp wq t u v)))
-      go (Wrong a) w = refl
-      go (Next m) w =
+      go (Err a) w = refl
+      go (Ok m) w =
           let g = read s bytes c (shut s) names d (pred_of way) (t.at + 1 + operands_of 7) m w in
           let n : m ≡ l.at = read_end s c (shut s) d (pred_of way) (t.at + 1 + operands_of 7) m g in
           let k : after s d (t.at + 1 + operands_of 7) ≡ l.at = g.0 ∙ n in
-          ap (λ (x : ℕ). way_of (and_then (f x) (λ y. Next y)) all) n ∙ second m (f l.at)
+          ap (λ (x : ℕ). way_of (and_then (f x) (λ y. Ok y)) all) n ∙ second m (f l.at)
           ∙ ap (λ (x : ℕ). and_on (way_of (f l.at) (told (part_at s (shut s) d x) (suc o) (bared l))) (λ v. Going (met wp wq t l v))) k

@@ -1,7 +1,6 @@
 -- The verdict from the walks: what stands of a book after the bodies of its entries below y.
-use Rattle.std.specs.Prelude.{ℕ, zero, suc, max, ◌+◌, ◌*◌, ◌-◌, ◌≤◌, ◌<◌, ◌≡◌, true, cond, List, eqb, length, get_or}
+use Rattle.std.specs.Prelude.{ℕ, zero, suc, max, ◌+◌, ◌*◌, ◌-◌, ◌≤◌, ◌<◌, ◌≡◌, true, cond, List, eqb, length, get_or, Err, Ok}
 use Rattle.std.proofs.Math.Option.{Option, none, some}
-use Rattle.rules.specs.declared.Reading.TheVariants.{Next, Wrong}
 use Rattle.rules.specs.Parts.{Part, parts, deep}
 use Rattle.rules.specs.Books.{most_fields, most_tables, most_bytes, first_body, entries}
 use Rattle.rules.specs.Reading.{fields_of, tables_of, body_start, masks_right, read_entries, body_at, main_of, tables_from, policy_of}
@@ -91,11 +90,11 @@ pub record So (s : List ℕ) (y : ℕ) (z : Sums) (marks uses : List ℕ) : Type
 
 unfoldable pub Turned : List ℕ → ℕ → Summed → List ℕ → List ℕ → Type 0
 Turned s y (All z) marks uses = So s (suc y) z marks uses
-Turned s y (Stop a) marks uses = read_entries s (suc (tables_of s)) 0 ≡ Wrong a
+Turned s y (Stop a) marks uses = read_entries s (suc (tables_of s)) 0 ≡ Err a
 
 -- all bodies are read: n, D, the first wrong concurrent part and the first body that does not fit
 pub record Ends (s : List ℕ) (z : Sums) (fault : ℕ) : Type 0 where
-  pub form : read_entries s (suc (tables_of s)) 0 ≡ Next (length s)
+  pub form : read_entries s (suc (tables_of s)) 0 ≡ Ok (length s)
   pub count : parts (main_of s) ≡ z.parts
   pub down : deep (main_of s) ≡ z.deep
   pub wrong : wrongs_of s ≡ fault
@@ -103,4 +102,4 @@ pub record Ends (s : List ℕ) (z : Sums) (fault : ℕ) : Type 0 where
 
 unfoldable pub Ended : List ℕ → Summed → List ℕ → Type 0
 Ended s (All z) marks = Ends s z (get_or marks 0 0)
-Ended s (Stop a) marks = read_entries s (suc (tables_of s)) 0 ≡ Wrong a
+Ended s (Stop a) marks = read_entries s (suc (tables_of s)) 0 ≡ Err a

@@ -1,8 +1,6 @@
 -- The one walk: what stands of a body after each part, as one tally that goes through it from left to right.
-use Rattle.std.specs.Prelude.{ℕ, zero, suc, max, ◌+◌, ◌*◌, ◌/◌, ◌%◌, ◌≤◌, ◌<◌, ◌≡◌, Bool, false, cond, List, [], ◌∷◌, eqb, length, get_or, set}
+use Rattle.std.specs.Prelude.{ℕ, zero, suc, max, ◌+◌, ◌*◌, ◌/◌, ◌%◌, ◌≤◌, ◌<◌, ◌≡◌, Bool, false, cond, List, [], ◌∷◌, eqb, length, get_or, set, Err, Ok, Result}
 use Rattle.std.specs.Int.Bits.{bit_or}
-use Rattle.rules.specs.declared.Reading.{Reading}
-use Rattle.rules.specs.declared.Reading.TheVariants.{Next, Wrong}
 use Rattle.rules.specs.Codes.{parts_of}
 use Rattle.rules.specs.Parts.{Part, Id, Drop, Test, Set, Not, Sum, Seq, Beside, Table, Open, size, parts, deep}
 use Rattle.rules.specs.Typing.{tested, written, right_masks, wrongs}
@@ -117,9 +115,9 @@ pub data Way : Type 0 where
   Going : Tally → Way
   Stopped : ℕ → Way
 
-abbrev pub way_of : Reading → Tally → Way
-way_of (Next e) t = Going t
-way_of (Wrong a) t = Stopped a
+abbrev pub way_of : Result ℕ ℕ → Tally → Way
+way_of (Ok e) t = Going t
+way_of (Err a) t = Stopped a
 
 abbrev pub and_on : Way → (Tally → Way) → Way
 and_on (Going t) f = f t
@@ -176,14 +174,14 @@ Apart r (On st) = (st ≡ r) × (r % 65536 ≡ 0 → ⊥)
 Apart r (Off a) = r ≡ a * 65536
 
 -- a part with no parts below it, by the reading of its operands
-abbrev pub Leafed : List ℕ → ℕ → Part → Reading → ℕ → Type 0
-Leafed s st p (Next e) r =
+abbrev pub Leafed : List ℕ → ℕ → Part → Result ℕ ℕ → ℕ → Type 0
+Leafed s st p (Ok e) r =
     (place_in r ≡ place_in st + size p) × (parts_in r ≡ parts_in st + parts p) × (tests_in r ≡ bit_or (tests_in st) (tested p))
     × (writes_in r ≡ bit_or (writes_in st) (written p)) × (place_in st + size p ≤ length s)
-Leafed s st p (Wrong a) r = (r ≡ a * 65536) × (a ≤ length s)
+Leafed s st p (Err a) r = (r ≡ a * 65536) × (a ≤ length s)
 
 -- what stands where a code with no parts below it stands
-abbrev pub leaf_read : List ℕ → ℕ → ℕ → Reading
+abbrev pub leaf_read : List ℕ → ℕ → ℕ → Result ℕ ℕ
 leaf_read s way at = read_part s (scope_at s way) 1 (pred_of way) at
 
 abbrev pub leaf_at : List ℕ → ℕ → Part
@@ -198,11 +196,11 @@ pub record LeafAsked (s uses : List ℕ) (st way : ℕ) : Type 0 where
   pub few : (x : ℕ) → get_or uses x 0 ≤ place_in st + 32
   pub level : open_of way ≤ most_depth
 
-abbrev pub Noted : ℕ → Part → Reading → List ℕ → List ℕ → Type 0
-Noted o p (Next e) uses after =
+abbrev pub Noted : ℕ → Part → Result ℕ ℕ → List ℕ → List ℕ → Type 0
+Noted o p (Ok e) uses after =
     (after ≡ noted p o uses) × (length after ≡ length uses)
     × ((n y : ℕ) → o ≤ n → length uses ≡ 32 → ((z : ℕ) → get_or uses z 0 ≤ n) → get_or after y 0 ≤ n + 1)
-Noted o p (Wrong a) uses after = Unit {0}
+Noted o p (Err a) uses after = Unit {0}
 
 -- the rule of a concurrent part with masks wp and wq, over two states
 abbrev pub right_states : ℕ → ℕ → ℕ → ℕ → Bool
@@ -226,13 +224,13 @@ abbrev pub fault_after : ℕ → Bool → ℕ → ℕ → ℕ
 fault_after zero right at below = cond right below (suc at)
 fault_after (suc a) right at below = below
 
-abbrev pub WrongWithin : Reading → Type 0
-WrongWithin (Next e) = Unit {0}
-WrongWithin (Wrong a) = a ≤ most_bytes
+abbrev pub WrongWithin : Result ℕ ℕ → Type 0
+WrongWithin (Ok e) = Unit {0}
+WrongWithin (Err a) = a ≤ most_bytes
 
-abbrev pub refused_at : Reading → ℕ
-refused_at (Next e) = 0
-refused_at (Wrong a) = a * 65536
+abbrev pub refused_at : Result ℕ ℕ → ℕ
+refused_at (Ok e) = 0
+refused_at (Err a) = a * 65536
 
 -- a concurrent part at hand, and depth below it
 pub record BesideAsked (s marks uses : List ℕ) (st d way : ℕ) : Type 0 where
@@ -252,7 +250,7 @@ pub record BodyAsked (s marks uses : List ℕ) (start way : ℕ) : Type 0 where
 
 unfoldable pub Body : List ℕ → ℕ → ℕ → Tally → Walked → List ℕ → List ℕ → Type 0
 Body s way start t (On st) marks uses =
-    (read_body s (scope_at s way) start ≡ Next (length s))
+    (read_body s (scope_at s way) start ≡ Ok (length s))
     × (tally_of st marks uses ≡ told (part_at s (shut s) most_depth start) (open_of way) t) × (length marks ≡ 2)
     × Kept s (open_of way) (tally_of st marks uses)
-Body s way start t (Off a) marks uses = read_body s (scope_at s way) start ≡ Wrong a
+Body s way start t (Off a) marks uses = read_body s (scope_at s way) start ≡ Err a

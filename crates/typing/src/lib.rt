@@ -25,7 +25,7 @@ ghost use Rattle.typing.specs.Walking.{LeafAsked, leaf_read, leaf_at, Leafed, No
 ghost use Rattle.typing.specs.Walking.{Body};
 ghost use Rattle.typing.specs.Summing.{Fronted, Cleared, So, Turned, Ends, Ended};
 
-use rules::{Reading, Reason, Refusal, Sizes, Verdict};
+use rules::{Reason, Refusal, Sizes};
 
 // The room of each of the four in a state.
 const WIDTH: u64 = 65536;
@@ -79,13 +79,13 @@ fn unwire(r: u64) -> Walked
 }
 
 // The refusal of a reading, in one number.
-fn refused(r: Reading) -> u64
+fn refused(r: Result<usize, usize>) -> u64
     requires { WrongWithin r }
     ensures { result ≡ refused_at r }
 {
     match r {
-        Reading::Next(place) => 0,
-        Reading::Wrong(place) => refusal(place),
+        Ok(place) => 0,
+        Err(place) => refusal(place),
     }
 }
 
@@ -250,7 +250,7 @@ fn field_part(s: &[u8], st: u64, code: u8) -> u64
 {
     let at = (st % WIDTH) as usize;
     let ops = book::read_operands(s, code, at);
-    let Reading::Next(next) = ops else {
+    let Ok(next) = ops else {
         return refused(ops);
     };
     let h = book::head_at(s, at);
@@ -282,7 +282,7 @@ fn use_part(s: &[u8], uses: &mut [u16; 32], st: u64, way: usize) -> u64
 {
     let at = (st % WIDTH) as usize;
     let ops = book::read_operands(s, 8, at);
-    let Reading::Next(next) = ops else {
+    let Ok(next) = ops else {
         return refused(ops);
     };
     let h = book::head_at(s, at);
@@ -376,7 +376,7 @@ fn beside_part(
 {
     let at = (st % WIDTH) as usize;
     let ops = book::read_operands(s, 7, at);
-    let Reading::Next(from) = ops else {
+    let Ok(from) = ops else {
         return refused(ops);
     };
     let before = marks[0];
@@ -592,29 +592,29 @@ fn all_bodies(book: &[u8], marks: &mut [u16; 2], uses: &mut [u16; 32]) -> Summed
 // ---- the verdict
 
 // The numbers 6 and 7 of a book whose bodies are read.
-fn sentence(book: &[u8], z: Sums, fault: usize) -> Verdict
+fn sentence(book: &[u8], z: Sums, fault: usize) -> Result<Sizes, Refusal>
     requires { Fronted book.now × Ends book.now z fault }
     ensures { result ≡ verdict book.now }
 {
     if 1023 < z.parts {
-        return Verdict::Refused(rules::no_place(Reason::Limits));
+        return Err(Reason::Limits.into());
     }
     if 4 < z.deep {
-        return Verdict::Refused(rules::no_place(Reason::Limits));
+        return Err(Reason::Limits.into());
     }
     if fault != 0 {
-        return Verdict::Refused(Refusal {
+        return Err(Refusal {
             reason: Reason::Typing,
             place: fault - 1,
         });
     }
     if z.unfit != 0 {
-        return Verdict::Refused(Refusal {
+        return Err(Refusal {
             reason: Reason::Typing,
             place: z.unfit - 1,
         });
     }
-    Verdict::Accepted(Sizes {
+    Ok(Sizes {
         fields: book::byte_at(book, 0) as usize,
         tables: book::byte_at(book, 1) as usize,
         parts: z.parts,
@@ -623,7 +623,7 @@ fn sentence(book: &[u8], z: Sums, fault: usize) -> Verdict
 }
 
 // The numbers 5 to 7 of a book whose contents are right.
-fn bodies(book: &[u8]) -> Verdict
+fn bodies(book: &[u8]) -> Result<Sizes, Refusal>
     requires { Fronted book.now }
     ensures { result ≡ verdict book.now }
 {
@@ -632,7 +632,7 @@ fn bodies(book: &[u8]) -> Verdict
     let all = all_bodies(book, &mut marks, &mut uses);
     match all {
         Summed::All(z) => sentence(book, z, wide(marks[0])),
-        Summed::Stop(place) => Verdict::Refused(Refusal {
+        Summed::Stop(place) => Err(Refusal {
             reason: Reason::Form,
             place,
         }),
@@ -640,21 +640,21 @@ fn bodies(book: &[u8]) -> Verdict
 }
 
 // The verdict on a book: the numbers 1 to 7 in their order, or its sizes.
-pub fn accept(book: &[u8]) -> Verdict
+pub fn accept(book: &[u8]) -> Result<Sizes, Refusal>
     ensures { AcceptAnswer book.now result }
 {
     if !book::length_right(book.len()) {
-        return Verdict::Refused(rules::no_place(Reason::BookLength));
+        return Err(Reason::BookLength.into());
     }
     let m = book::byte_at(book, 1);
     if !book::counts_right(book::byte_at(book, 0), m) {
-        return Verdict::Refused(rules::no_place(Reason::Counts));
+        return Err(Reason::Counts.into());
     }
     if book::body_start(book, m + 1) != book.len() {
-        return Verdict::Refused(rules::no_place(Reason::Lengths));
+        return Err(Reason::Lengths.into());
     }
     if !book::masks_right(book) {
-        return Verdict::Refused(rules::no_place(Reason::EntryMasks));
+        return Err(Reason::EntryMasks.into());
     }
     bodies(book)
 }

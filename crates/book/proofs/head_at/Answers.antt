@@ -2,12 +2,11 @@
 use native.Mathlib.Omega.{arith}
 use lib.ListN.{get_or}
 use Rattle.book.proofs.PlaceLaws.{operands_few}
-use Rattle.book.proofs.OperandLaws.{head_none, head_whole}
+use Rattle.book.proofs.OperandLaws.{head_none, head_there}
 use Rattle.book.proofs.head_at.Goals as goal
 
 pub returns-then-s-at : goal.returns-then-s-at
-returns-then-s-at c =
-    head_none _ _ c.if-s-at.true
+returns-then-s-at c = head_none _ _ c.if-s-at.true
 
 pub overflow_add-result-2 : goal.overflow_add-result-2
 overflow_add-result-2 c =
@@ -16,4 +15,6 @@ overflow_add-result-2 c =
 
 pub returns : goal.returns
 returns c =
-    head_whole _ _ _ _ c.if-s-at.false c.number_of.ensures c.shape_of-shape.ensures
+    head_there _ _ _ _ _ _ c.if-s-at.false c.byte_at-first.ensures c.number_at.ensures
+    c.byte_at.ensures
+    c.shape_of-shape.ensures

@@ -8,9 +8,8 @@ pub returns-then-s-at : goal.returns-then-s-at
 returns-then-s-at c =
     read_past _ _ _ _ _ c.if-s-at.true
 
-pub returns-then-wrong-ne0 : goal.returns-then-wrong-ne0
-returns-then-wrong-ne0 c =
-    read_wrong _ _ _ _ _ _ c.if-wrong-ne0.true c.operand_wrong-wrong.ensures
+pub returns-in-Some : goal.returns-in-Some
+returns-in-Some c = read_wrong _ _ _ _ _ _ _ c.in-Some.is c.operand_wrong.ensures
 
 pub overflow_add-end-2 : goal.overflow_add-end-2
 overflow_add-end-2 c =
@@ -18,8 +17,8 @@ overflow_add-end-2 c =
 
 pub returns-then-s-end : goal.returns-then-s-end
 returns-then-s-end c =
-    read_cut _ _ _ _ _ _ c.if-wrong-ne0.false c.operand_wrong-wrong.ensures _ c.shape_of-shape.ensures c.if-s-end.true
+    read_cut _ _ _ _ _ _ c.in_default.is c.operand_wrong.ensures _ c.shape_of-shape.ensures c.if-s-end.true
 
 pub returns : goal.returns
 returns c =
-    read_next _ _ _ _ _ _ c.if-wrong-ne0.false c.operand_wrong-wrong.ensures _ c.shape_of-shape.ensures c.if-s-end.false
+    read_next _ _ _ _ _ _ c.in_default.is c.operand_wrong.ensures _ c.shape_of-shape.ensures c.if-s-end.false

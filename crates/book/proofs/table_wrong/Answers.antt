@@ -1,19 +1,15 @@
 -- `table_wrong` meets its contract: one law for each answer. Assumes nothing.
-use Rattle.book.proofs.OperandLaws.{table_absent, table_zero, table_right, table_over}
+use borrow.Author.Rules.{rules}
+use Rattle.book.proofs.OperandLaws.{table_absent, table_right, table_over}
 use Rattle.book.proofs.table_wrong.Goals as goal
+use Rattle.book.proofs.table_wrong.Goals.{else-at-s-via-then-at-s+else-not-contains, else-at-s-via-else-at-s}
 
-pub returns-then-s-at : goal.returns-then-s-at
-returns-then-s-at c =
-    table_absent _ _ _ c.if-s-at.true
+pub returns-then-not-contains : goal.returns-then-not-contains
+returns-then-not-contains c = table_over _ _ _ c.if-at-s.true _ (search rules) c.if-not-contains.true
 
-pub returns-then-x-eq0 : goal.returns-then-x-eq0
-returns-then-x-eq0 c =
-    table_zero _ _ _ c.if-s-at.false c.if-x-eq0.true
-
-pub returns-then-x-s : goal.returns-then-x-s
-returns-then-x-s c =
-    table_right _ _ _ c.if-s-at.false c.if-x-eq0.false c.if-x-s.true
-
-pub returns-else-x-s : goal.returns-else-x-s
-returns-else-x-s c =
-    table_over _ _ _ c.if-s-at.false c.if-x-eq0.false c.if-x-s.false
+pub returns-else-at-s : goal.returns-else-at-s
+returns-else-at-s c =
+    elim c.else-at-s.branch [
+      | else-at-s-via-then-at-s+else-not-contains w ↦ table_right _ _ _ w.if-at-s.true _ (search rules) w.if-not-contains.false
+      | else-at-s-via-else-at-s w ↦ table_absent _ _ _ w.if-at-s.false
+    ]

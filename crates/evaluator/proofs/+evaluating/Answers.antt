@@ -151,7 +151,7 @@ one_packet-joined-requires t c =
 pub one_packet-returns : goal.one_packet-returns
 one_packet-returns t c =
     let first = c.evaluate_part-a.ensures in
-    did_pair (did_on c.alone-x.ensures.held first) c.if-a.false
+    did_pair c.pairs_into-count.result (did_on c.alone-x.ensures.held first) c.if-a.false
     (did_on c.alone-y.ensures.held (goes_on _ _ _ _ first c.if-a.false c.evaluate_part-b.ensures))
     c.if-b.false c.joined.ensures c.pairs_into-count.ensures
 
@@ -231,7 +231,7 @@ sum_at-returns t c =
     let if2 = c.if-b in
     let copy_of = c.copy_of-x in
     let second = did_on copy_of.ensures.held evaluate-part2.ensures in
-    did_sum evaluate-part.ensures if1.false (goes_on _ _ _ _ evaluate-part.ensures if1.false second)
+    did_sum c.union_in-count.result evaluate-part.ensures if1.false (goes_on _ _ _ _ evaluate-part.ensures if1.false second)
     if2.false c.joined.ensures c.union_in-count.ensures
 
 pub table_at-evaluate_part-a-requires : goal.table_at-evaluate_part-a-requires
@@ -299,6 +299,6 @@ walk_packets-returns t c =
     let walk-packets = c.walk_packets-b in
     let if4 = c.if-b in
     walk_split c.args.v.now c.args.n c.args.i c.requires.1 (omega (arith, if1.false, c.requires.0))
-    (did_row row.ensures one_packet.ensures) if2.false
+    (did_row row.ensures one_packet.ensures) c.union_in-count.result if2.false
     (omega (arith, if1.false, if3.false, c.requires.0)) walk-packets.ensures if4.false c.joined.ensures
     c.union_in-count.ensures

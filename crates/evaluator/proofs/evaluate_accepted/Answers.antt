@@ -7,14 +7,14 @@ use Rattle.evaluator.proofs.evaluate_accepted.Goals as goal
 
 pub returns-then-packet-k : goal.returns-then-packet-k
 returns-then-packet-k c =
-    rw c.no_place.ensures (wrong_packet _ _ _ _ c.requires c.if-packet-k.true)
+    rw c.into.ensures (wrong_packet _ _ _ _ c.requires c.if-packet-k.true)
 
 pub overflow_mul-k : goal.overflow_mul-k
 overflow_mul-k c = omega (arith, (fields_some _ _ c.requires).1)
 
 pub returns-then-res-k : goal.returns-then-res-k
 returns-then-res-k c =
-    rw c.no_place-then-res-k.ensures (wrong_buffer _ _ _ _ c.requires c.if-packet-k.false c.if-res-k.true)
+    rw c.into-then-res-k.ensures (wrong_buffer _ _ _ _ c.requires c.if-packet-k.false c.if-res-k.true)
 
 pub all_fields-fields-requires : goal.all_fields-fields-requires
 all_fields-fields-requires c = (fields_some _ _ c.requires).1
@@ -30,13 +30,13 @@ emit_rows-written-requires c =
 
 pub returns-in-Open : goal.returns-in-Open
 returns-in-Open c =
-    rw c.no_place-in-Open.ensures
+    rw c.into-in-Open.ensures
     (unpopulated _ _ _ _ c.requires c.if-packet-k.false c.if-res-k.false _ _ c.pass-passage.ensures
     c.in-Open.is)
 
 pub returns-in-Wide : goal.returns-in-Wide
 returns-in-Wide c =
-    rw c.no_place-in-Wide.ensures
+    rw c.into-in-Wide.ensures
     (too_wide _ _ _ _ c.requires c.if-packet-k.false c.if-res-k.false _ _ c.pass-passage.ensures
     c.in-Wide.is)
 

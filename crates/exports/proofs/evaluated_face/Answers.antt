@@ -2,8 +2,8 @@
 use Rattle.exports.proofs.FaceLaws.{shows_given, shows_not_given}
 use Rattle.exports.proofs.evaluated_face.Goals as goal
 
-pub returns-in-Given : goal.returns-in-Given
-returns-in-Given c = shows_given c.in-Given.is
+pub returns-in-Ok : goal.returns-in-Ok
+returns-in-Ok c = shows_given c.in-Ok.is
 
-pub returns-in-NotGiven : goal.returns-in-NotGiven
-returns-in-NotGiven c = shows_not_given c.in-NotGiven.is c.refusal_face.ensures
+pub returns-in-Err : goal.returns-in-Err
+returns-in-Err c = shows_not_given c.in-Err.is c.refusal_face.ensures

@@ -2,8 +2,8 @@
 use Rattle.exports.proofs.FaceLaws.{shows_accepted, shows_refused}
 use Rattle.exports.proofs.verdict_face.Goals as goal
 
-pub returns-in-Accepted : goal.returns-in-Accepted
-returns-in-Accepted c = shows_accepted c.in-Accepted.is
+pub returns-in-Ok : goal.returns-in-Ok
+returns-in-Ok c = shows_accepted c.in-Ok.is
 
-pub returns-in-Refused : goal.returns-in-Refused
-returns-in-Refused c = shows_refused c.in-Refused.is c.refusal_face.ensures
+pub returns-in-Err : goal.returns-in-Err
+returns-in-Err c = shows_refused c.in-Err.is c.refusal_face.ensures

@@ -6,18 +6,18 @@ use Rattle.machine.proofs.run_accepted.Goals as goal
 
 pub returns-then-packet-k : goal.returns-then-packet-k
 returns-then-packet-k c =
-    rw c.no_place.ensures (refused_packet _ _ _ _ _ _ c.requires c.if-packet-k.true)
+    rw c.into.ensures (refused_packet _ _ _ _ _ _ c.requires c.if-packet-k.true)
 
 pub overflow_mul-k : goal.overflow_mul-k
 overflow_mul-k c = omega (arith, (fields_are _ _ c.requires).1)
 
 pub returns-then-res-k : goal.returns-then-res-k
 returns-then-res-k c =
-    rw c.no_place-then-res-k.ensures (refused_result _ _ _ _ _ _ c.requires c.if-packet-k.false c.if-res-k.true)
+    rw c.into-then-res-k.ensures (refused_result _ _ _ _ _ _ c.requires c.if-packet-k.false c.if-res-k.true)
 
 pub returns-then-work-lt-AREA_WORDS : goal.returns-then-work-lt-AREA_WORDS
 returns-then-work-lt-AREA_WORDS c =
-    rw c.no_place-then-work-lt-AREA_WORDS.ensures (refused_area _ _ _ _ _ _ c.requires c.if-packet-k.false c.if-work-lt-AREA_WORDS.true)
+    rw c.into-then-work-lt-AREA_WORDS.ensures (refused_area _ _ _ _ _ _ c.requires c.if-packet-k.false c.if-work-lt-AREA_WORDS.true)
 
 pub weigh-passage-requires : goal.weigh-passage-requires
 weigh-passage-requires c =
@@ -32,12 +32,12 @@ run_weighed-requires c =
 
 pub returns-in-Open : goal.returns-in-Open
 returns-in-Open c =
-    rw c.no_place-in-Open.ensures
+    rw c.into-in-Open.ensures
     (refused_open _ _ _ _ _ _ c.requires c.if-packet-k.false c.if-res-k.false c.if-work-lt-AREA_WORDS.false _ c.weigh-passage.ensures
     c.in-Open.is)
 
 pub returns-in-Wide : goal.returns-in-Wide
 returns-in-Wide c =
-    rw c.no_place-in-Wide.ensures
+    rw c.into-in-Wide.ensures
     (refused_wide _ _ _ _ _ _ c.requires c.if-packet-k.false c.if-res-k.false c.if-work-lt-AREA_WORDS.false _ c.weigh-passage.ensures
     c.in-Wide.is)

@@ -4,7 +4,7 @@ use Rattle.machine.proofs.Running.{refused_positions, few_words, runs, conducted
 use Rattle.machine.proofs.run_weighed.Goals as goal
 
 pub returns-then-room : goal.returns-then-room
-returns-then-room c = rw c.no_place.ensures (refused_positions _ _ _ _ _ _ c.requires c.if-room.true)
+returns-then-room c = rw c.into.ensures (refused_positions _ _ _ _ _ _ c.requires c.if-room.true)
 
 pub conduct-requires : goal.conduct-requires
 conduct-requires c =

@@ -4,13 +4,13 @@ use Rattle.printer.proofs.print_accepted.Goals as goal
 
 pub returns-then-rest-bytes : goal.returns-then-rest-bytes
 returns-then-rest-bytes c =
-    rw (way_cut_packet _ _ _ c.requires c.if-rest-bytes.true, ← c.no_place.ensures) c.refused.ensures
+    rw (way_cut_packet _ _ _ c.requires c.if-rest-bytes.true, ← c.into.ensures) c.refused.ensures
 
 pub returns-then-schedule-gt-MOST_CHOICES : goal.returns-then-schedule-gt-MOST_CHOICES
 returns-then-schedule-gt-MOST_CHOICES c =
     rw (
       way_long_schedule _ _ _ c.requires c.if-rest-bytes.false c.if-schedule-gt-MOST_CHOICES.true,
-      ← c.no_place-then-schedule-gt-MOST_CHOICES.ensures,
+      ← c.into-then-schedule-gt-MOST_CHOICES.ensures,
     )
     c.refused-then-schedule-gt-MOST_CHOICES.ensures
 

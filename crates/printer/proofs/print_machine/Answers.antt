@@ -1,4 +1,6 @@
 -- `print_machine` meets its contract, for each answer of the machine. Assumes nothing.
+use mathlib.Core.Path.{ap, ◌∙◌}
+use Rattle.std.specs.Prelude.{Ok}
 use native.Mathlib.Omega.{arith}
 use mathlib.Core.Path.{refl}
 use borrow.Author.Rules.{rules}
@@ -8,22 +10,22 @@ use Rattle.printer.proofs.print_machine.Goals as goal
 pub finished-requires : goal.finished-requires
 finished-requires c =
     finished_asks _ _ _ _ _ _ _ c.requires.0 c.requires.1 (search rules) (search rules) c.run_accepted.ensures.is
-    _ c.in-Finished.is (λ i. omega (arith, c.type_inv.book i)) _ _ refl c.run_accepted.ensures.out
+    _ (c.in-Ok-Finished.is ∙ ap Ok c.in-Ok-Finished.field-0-is) (λ i. omega (arith, c.type_inv.book i)) _ _ refl c.run_accepted.ensures.out
 
-pub returns-in-Finished : goal.returns-in-Finished
-returns-in-Finished c =
+pub returns-in-Ok-Finished : goal.returns-in-Ok-Finished
+returns-in-Ok-Finished c =
     let e = text_finished _ _ _ _ _ _ _ c.requires.0 c.requires.1 (search rules) (search rules) c.run_accepted.ensures.is
-    _ c.in-Finished.is (λ i. omega (arith, c.type_inv.book i)) _ _ refl c.run_accepted.ensures.out in
+    _ (c.in-Ok-Finished.is ∙ ap Ok c.in-Ok-Finished.field-0-is) (λ i. omega (arith, c.type_inv.book i)) _ _ refl c.run_accepted.ensures.out in
     rw e c.finished.ensures
 
-pub returns-in-Running : goal.returns-in-Running
-returns-in-Running c =
+pub returns-in-Ok-Running : goal.returns-in-Ok-Running
+returns-in-Ok-Running c =
     let e = text_running _ _ _ _ _ _ _ c.requires.0 c.requires.1 (search rules) (search rules) c.run_accepted.ensures.is
-    _ c.in-Running.is in
+    _ (c.in-Ok-Running.is ∙ ap Ok c.in-Ok-Running.field-0-is) in
     rw e c.running.ensures
 
-pub returns-in-NotRun : goal.returns-in-NotRun
-returns-in-NotRun c =
+pub returns-in-Err : goal.returns-in-Err
+returns-in-Err c =
     let e = text_refused _ _ _ _ _ _ _ c.requires.0 c.requires.1 (search rules) (search rules) c.run_accepted.ensures.is
-    _ c.in-NotRun.is in
+    _ c.in-Err.is in
     rw e c.refused.ensures

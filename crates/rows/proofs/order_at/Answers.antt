@@ -11,16 +11,16 @@ returns-in-Less c =
     sym (c.loop-f.invariant.2 ∙ four_less _ _ _ _ _ c.loop-f.f m c.requires.1 c.requires.2
     (sym c.order4-o.ensures ∙ c.in-Less.is))
 
-pub returns-in-More : goal.returns-in-More
-returns-in-More c =
+pub returns-in-Greater : goal.returns-in-Greater
+returns-in-Greater c =
     let m = four_fits _ c.args.r (omega arith) c.loop-f.invariant.1 c.requires.0 in
     sym (c.loop-f.invariant.2 ∙ four_more _ _ _ _ _ c.loop-f.f m c.requires.1 c.requires.2
-    (sym c.order4-o.ensures ∙ c.in-More.is))
+    (sym c.order4-o.ensures ∙ c.in-Greater.is))
 
 pub loop-f-preserved : goal.loop-f-preserved
 loop-f-preserved c =
     let m = four_fits _ c.args.r (omega arith) c.loop-f.invariant.1 c.requires.0 in
-    let e = four_same _ _ _ _ _ c.loop-f.f m c.requires.1 c.requires.2 (sym c.order4-o.ensures ∙ c.in-Same.is) in
+    let e = four_same _ _ _ _ _ c.loop-f.f m c.requires.1 c.requires.2 (sym c.order4-o.ensures ∙ c.in-Equal.is) in
     (omega arith, omega arith, c.loop-f.invariant.2 ∙ e)
 
 pub returns : goal.returns

@@ -14,17 +14,17 @@ loop-i-preserved-in-Less c =
     let y = sifted_less c.loop-i.i c.loop-i.j c.requires.0 c.requires.1 (search rules) c.loop-i.invariant.3 (search rules) e in
     (omega arith, search rules, omega arith, y (rw s at c.move_row.ensures))
 
-pub loop-i-preserved-in-Same : goal.loop-i-preserved-in-Same
-loop-i-preserved-in-Same c =
+pub loop-i-preserved-in-Equal : goal.loop-i-preserved-in-Equal
+loop-i-preserved-in-Equal c =
     let s = sliding_row c.loop-i.invariant.3 (omega (arith, c.requires.0.room)) in
-    let e = sym (rw s at c.weigh_out-o.ensures) ∙ c.in-Same.is in
+    let e = sym (rw s at c.weigh_out-o.ensures) ∙ c.in-Equal.is in
     let y = sifted_same c.loop-i.i c.loop-i.j c.requires.0 c.requires.1 (search rules) c.loop-i.invariant.3 e in
     (omega arith, omega (arith, y.0), omega arith, y.1)
 
 pub loop-i-preserved : goal.loop-i-preserved
 loop-i-preserved c =
     let s = sliding_row c.loop-i.invariant.3 (omega (arith, c.requires.0.room)) in
-    let e = sym (rw s at c.weigh_out-o.ensures) ∙ c.in-More.is in
+    let e = sym (rw s at c.weigh_out-o.ensures) ∙ c.in-Greater.is in
     let y = sifted_more c.loop-i.i c.loop-i.j c.requires.0 c.requires.1 (search rules) c.loop-i.invariant.3 e in
     (search rules, omega (arith, y.0), search rules, y.1)
 

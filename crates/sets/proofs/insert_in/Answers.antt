@@ -9,17 +9,16 @@ use Rattle.sets.proofs.insert_in.Goals as goal
 
 pub returns-then-k-ge-MOST : goal.returns-then-k-ge-MOST
 returns-then-k-ge-MOST c =
-    inserted_not _ c.in-At.i c.args.k (omega (arith, c.requires.0)) c.requires.2 (rw c.in-At.is at c.place_in-o.ensures).1
+    inserted_not c.args.r _ _ c.in-Some.i c.args.k (omega (arith, c.requires.0)) (rw c.in-Some.is at c.place_in.ensures).1
 
-pub returns-in-There : goal.returns-in-There
-returns-in-There c =
-    inserted_there _ c.args.k c.requires.0 c.requires.2 (rw c.in-There.is at c.place_in-o.ensures)
+pub returns-in_default : goal.returns-in_default
+returns-in_default c =
+    inserted_there _ c.args.k c.requires.0 c.requires.2 (rw c.in_default.is at c.place_in.ensures)
 
-pub returns-else-k-ge-MOST : goal.returns-else-k-ge-MOST
-returns-else-k-ge-MOST c =
+pub returns : goal.returns
+returns c =
     let a = c.args in
-    let f = rw c.in-At.is at c.place_in-o.ensures in
+    let f = rw c.in-Some.is at c.place_in.ensures in
     let n = length_rows_lem a.r a.w.now in
-    let b : c.in-At.i ≤ a.k = omega (arith, f.0, length-take-le a.k (rows_of a.r a.w.now) (omega (arith, c.requires.0))) in
-    inserted _ c.in-At.i c.args.k b (omega (arith, c.if-k-ge-MOST.false)) c.shift.ensures
-    c.put_row.ensures f.1
+    let b : c.in-Some.i ≤ a.k = omega (arith, f.0, length-take-le a.k (rows_of a.r a.w.now) (omega (arith, c.requires.0))) in
+    inserted _ c.in-Some.i c.args.k b (omega (arith, c.if-k-ge-MOST.false)) c.shift.ensures c.put_row.ensures f.1

@@ -9,7 +9,6 @@ use Rattle.rules.proofs.Sets.{union_ascending}
 use Rattle.rows.specs.Chunks.{rows_of, Packed}
 use Rattle.rows.proofs.Chunks.{length_rows_lem}
 use Rattle.rows.proofs.Clearing.{cleared_all}
-use Rattle.rows.proofs.Holding.{fits_held, fits_over}
 use Rattle.sets.proofs.Rows.{slice_at, slice_end}
 use Rattle.sets.proofs.Merging.{merging_less, merging_same, merging_more, merging_over}
 use Rattle.sets.proofs.Merging.{merging_end, ascending_at, length_joined}
@@ -31,31 +30,32 @@ loop-j-preserved-in-Less c =
           c.move_row.ensures,
     )
 
-pub loop-j-preserved-in-Same : goal.loop-j-preserved-in-Same
-loop-j-preserved-in-Same c =
+pub loop-j-preserved-in-Equal : goal.loop-j-preserved-in-Equal
+loop-j-preserved-in-Equal c =
     let g = c.args in
-    let o = sym c.weigh-o.ensures ∙ c.in-Same.is in
+    let o = sym c.weigh-o.ensures ∙ c.in-Equal.is in
     let a = ascending_at g.m c.loop-j.j c.requires.1 (search rules) in (
       omega arith,
       merging_same c.loop-j.i g.e c.loop-j.k c.requires.0.top c.loop-j.invariant.1 _ _ (below g.r _ g.m _ (search rules) c.requires.1) a o
-          c.move_row-in-Same.ensures,
+          c.move_row-in-Equal.ensures,
     )
 
 pub returns-then-k-i : goal.returns-then-k-i
 returns-then-k-i c =
     let g = c.args in
-    let o = sym c.weigh-o.ensures ∙ c.in-More.is in
+    let o = sym c.weigh-o.ensures ∙ c.in-Greater.is in
     let a = ascending_at g.m c.loop-j.j c.requires.1 (search rules) in
-    let m = c.loop-j.invariant.1 in
-    fits_over (cleared_all c.clear_rows.ensures c.requires.0.top m.zeros)
-    (merging_over c.loop-j.i g.e c.loop-j.k c.requires.0.top m _ _
-    (below g.r _ g.m _ (search rules) c.requires.1) a g.h g.m o c.if-k-i.true c.requires.0.low
-    (length_joined c.requires.0 c.requires.1) c.requires.0.room)
+    let m = c.loop-j.invariant.1 in (
+      merging_over c.loop-j.i g.e c.loop-j.k c.requires.0.top m _ _
+          (below g.r _ g.m _ (search rules) c.requires.1) a g.h g.m o c.if-k-i.true c.requires.0.low
+          (length_joined c.requires.0 c.requires.1) c.requires.0.room,
+      cleared_all c.clear_rows.ensures c.requires.0.top m.zeros,
+    )
 
 pub loop-j-preserved : goal.loop-j-preserved
 loop-j-preserved c =
     let g = c.args in
-    let o = sym c.weigh-o.ensures ∙ c.in-More.is in
+    let o = sym c.weigh-o.ensures ∙ c.in-Greater.is in
     let a = ascending_at g.m c.loop-j.j c.requires.1 (search rules) in (
       omega arith,
       merging_more c.loop-j.i g.e c.loop-j.k c.requires.0.top c.loop-j.invariant.1 _ _
@@ -67,5 +67,5 @@ pub returns : goal.returns
 returns c =
     let g = c.args in
     let z = slice_end (rows_of g.r g.b.now) c.loop-j.j g.m (search rules) in
-    fits_held (merging_end c.loop-j.i g.e c.loop-j.k c.requires.0.top c.loop-j.invariant.1 _ z c.lower.ensures
-    (union_ascending _ _ c.requires.0.order))
+    merging_end c.loop-j.i g.e c.loop-j.k c.requires.0.top c.loop-j.invariant.1 _ z c.lower.ensures
+    (union_ascending _ _ c.requires.0.order)

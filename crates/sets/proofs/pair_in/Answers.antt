@@ -5,20 +5,17 @@ use Rattle.sets.proofs.Pairing.{gather_at, pairing_over, pairing_end}
 use borrow.Author.Rules.{rules}
 use Rattle.sets.proofs.pair_in.Goals as goal
 
-pub returns-then-c-gt-MOST : goal.returns-then-c-gt-MOST
-returns-then-c-gt-MOST c =
+pub returns-in_err-c : goal.returns-in_err-c
+returns-in_err-c c =
     let g = c.args in
-    let e = rw c.mix_rows-q.ensures at c.insert_in-c.ensures in
-    pairing_over _ g.y.now g.v.now g.m g.k c.loop-j.j c.loop-j.invariant.1 (search rules) c.requires.3.room e (search rules)
+    let e = rw (c.in_err-c.was, c.mix_rows-q.ensures) at c.insert_in.ensures in
+    rw c.from_residual.ensures (pairing_over _ g.y.now g.v.now g.m g.k c.loop-j.j c.loop-j.invariant.1 (search rules) c.requires.3.room e)
 
 pub loop-j-preserved : goal.loop-j-preserved
 loop-j-preserved c =
     let g = c.args in
-    let e = rw c.mix_rows-q.ensures at c.insert_in-c.ensures in (
-      omega arith,
-      gathering_next (gather_at _ g.y.now g.m c.loop-j.j c.loop-j.invariant.1 (search rules) c.requires.3.room) e
-          (search rules),
-    )
+    let e = rw (c.in_ok-c.was, c.mix_rows-q.ensures) at c.insert_in.ensures in
+    (omega arith, gathering_next (gather_at _ g.y.now g.m c.loop-j.j c.loop-j.invariant.1 (search rules) c.requires.3.room) e)
 
 pub returns : goal.returns
 returns c =

@@ -11,19 +11,19 @@ use Rattle.sets.proofs.place_in.Goals as goal
 pub loop-i-init : goal.loop-i-init
 loop-i-init c = (search rules, let g = c.args in placed_start (rows_of g.r g.w.now) (take g.r g.p.now) g.k)
 
-pub returns-in-More : goal.returns-in-More
-returns-in-More c =
+pub returns-in-Greater : goal.returns-in-Greater
+returns-in-Greater c =
     let g = c.args in
     placed_here (rows_of g.r g.w.now) _ g.k c.loop-i.i (omega (arith, length_rows_lem g.r g.w.now, c.requires.0)) c.requires.3
     (search rules) (search rules)
-    (sym c.order_row-o.ensures ∙ c.in-More.is) c.loop-i.invariant.1
+    (sym c.order_row-o.ensures ∙ c.in-Greater.is) c.loop-i.invariant.1
 
-pub returns-in-Same : goal.returns-in-Same
-returns-in-Same c =
+pub returns-in-Equal : goal.returns-in-Equal
+returns-in-Equal c =
     let g = c.args in
     placed_there (rows_of g.r g.w.now) _ g.k c.loop-i.i (omega (arith, length_rows_lem g.r g.w.now, c.requires.0)) c.requires.3
     (search rules) (search rules)
-    (sym c.order_row-o.ensures ∙ c.in-Same.is)
+    (sym c.order_row-o.ensures ∙ c.in-Equal.is)
 
 pub loop-i-preserved : goal.loop-i-preserved
 loop-i-preserved c =

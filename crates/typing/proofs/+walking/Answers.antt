@@ -26,7 +26,7 @@ pub beside_part-walk-requires : goal.beside_part-walk-requires
 beside_part-walk-requires t c = (
   omega arith,
   first_asked _ _ _ _ _ _ c.requires _ c.read_operands-ops.ensures.0
-      c.read_operands-ops.ensures.1 _ c.in-Next.is _ _ _ _ c.level_of.ensures.0
+      c.read_operands-ops.ensures.1 _ c.in-Ok.is _ _ _ _ c.level_of.ensures.0
       c.bare.ensures c.past.ensures c.mark_level.ensures,
 )
 
@@ -38,7 +38,7 @@ beside_part-wire-requires t c =
 pub beside_part-returns-in_default-left : goal.beside_part-returns-in_default-left
 beside_part-returns-in_default-left t c =
     first_off _ _ _ _ _ _ c.requires _ c.read_operands-ops.ensures.0 c.read_operands-ops.ensures.1
-    _ c.in-Next.is _ _ _ _ c.level_of.ensures.0 c.bare.ensures c.past.ensures
+    _ c.in-Ok.is _ _ _ _ c.level_of.ensures.0 c.bare.ensures c.past.ensures
     c.mark_level.ensures _ _ _ (told_of _ _ _ _ _ _ _ c.unwire-left.ensures c.walk.ensures) _ _
     c.in_default-left.is c.wire.ensures
 
@@ -46,7 +46,7 @@ pub beside_part-walk-requires-2 : goal.beside_part-walk-requires-2
 beside_part-walk-requires-2 t c = (
   omega arith,
   second_asked _ _ _ _ _ _ c.requires _ c.read_operands-ops.ensures.0
-      c.read_operands-ops.ensures.1 _ c.in-Next.is _ _ _ _ c.level_of.ensures.0
+      c.read_operands-ops.ensures.1 _ c.in-Ok.is _ _ _ _ c.level_of.ensures.0
       c.bare.ensures c.past.ensures c.mark_level.ensures _ _ _
       (told_of _ _ _ _ _ _ _ c.unwire-left.ensures c.walk.ensures) _ c.in-On.is _ c.bare-2.ensures,
 )
@@ -59,7 +59,7 @@ beside_part-wire-requires-in_default-right t c =
 pub beside_part-returns-in_default-right : goal.beside_part-returns-in_default-right
 beside_part-returns-in_default-right t c =
     second_off _ _ _ _ _ _ c.requires _ c.read_operands-ops.ensures.0 c.read_operands-ops.ensures.1
-    _ c.in-Next.is _ _ _ _ c.level_of.ensures.0 c.bare.ensures c.past.ensures
+    _ c.in-Ok.is _ _ _ _ c.level_of.ensures.0 c.bare.ensures c.past.ensures
     c.mark_level.ensures _ _ _ (told_of _ _ _ _ _ _ _ c.unwire-left.ensures c.walk.ensures) _
     c.in-On.is _ c.bare-2.ensures _ _ _
     (told_of _ _ _ _ _ _ _ c.unwire-right.ensures c.walk-2.ensures) _ _ c.in_default-right.is
@@ -68,7 +68,7 @@ beside_part-returns-in_default-right t c =
 pub beside_part-returns : goal.beside_part-returns
 beside_part-returns t c =
     beside_left _ _ _ _ _ _ c.requires _ c.read_operands-ops.ensures.0
-    c.read_operands-ops.ensures.1 _ c.in-Next.is _ _ _ _ c.level_of.ensures.0
+    c.read_operands-ops.ensures.1 _ c.in-Ok.is _ _ _ _ c.level_of.ensures.0
     c.bare.ensures c.past.ensures c.mark_level.ensures _ _ _
     (told_of _ _ _ _ _ _ _ c.unwire-left.ensures c.walk.ensures) _ c.in-On.is _
     c.bare-2.ensures _ _ _ (told_of _ _ _ _ _ _ _ c.unwire-right.ensures c.walk-2.ensures) _

@@ -18,11 +18,11 @@ returns-in_default c =
 pub field_bit-bit-requires : goal.field_bit-bit-requires
 field_bit-bit-requires c =
     let h = ap (λ (h : Head). h.field) (shown _ _ _ c.requires.1 c.head_at-h.ensures) in
-    let read = sym c.read_operands-ops.ensures.0 ∙ c.in-Next.is in
+    let read = sym c.read_operands-ops.ensures.0 ∙ c.in-Ok.is in
     omega (arith, h, field_known _ _ _ _ _ _ c.requires.3 c.requires.4 read, c.requires.0.fields)
 
 pub returns : goal.returns
 returns c =
     field_left _ _ _ _ _ _ _ _ _ _ c.requires.3 c.requires.4 (shown _ _ _ c.requires.1 c.head_at-h.ensures)
-    c.read_operands-ops.ensures.0 c.in-Next.is c.field_bit-bit.ensures.0 c.mask_if.ensures.0
+    c.read_operands-ops.ensures.0 c.in-Ok.is c.field_bit-bit.ensures.0 c.mask_if.ensures.0
     c.mask_if-2.ensures.0 c.with_masks.ensures c.past.ensures

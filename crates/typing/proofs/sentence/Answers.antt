@@ -4,11 +4,11 @@ use Rattle.typing.proofs.sentence.Goals as goal
 
 pub returns-then-z-gt1023 : goal.returns-then-z-gt1023
 returns-then-z-gt1023 c =
-    rw c.no_place.ensures (many_parts _ c.requires.0 _ _ c.requires.1 c.if-z-gt1023.true)
+    rw c.into.ensures (many_parts _ c.requires.0 _ _ c.requires.1 c.if-z-gt1023.true)
 
 pub returns-then-z-gt4 : goal.returns-then-z-gt4
 returns-then-z-gt4 c =
-    rw c.no_place-then-z-gt4.ensures (too_deep _ c.requires.0 _ _ c.requires.1 c.if-z-gt1023.false c.if-z-gt4.true)
+    rw c.into-then-z-gt4.ensures (too_deep _ c.requires.0 _ _ c.requires.1 c.if-z-gt1023.false c.if-z-gt4.true)
 
 pub returns-then-fault-ne0 : goal.returns-then-fault-ne0
 returns-then-fault-ne0 c =

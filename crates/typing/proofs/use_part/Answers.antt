@@ -16,10 +16,10 @@ returns-in_default c = (
 pub note_use-requires : goal.note_use-requires
 note_use-requires c =
     note_asked _ _ _ _ (shown _ _ _ c.requires.inside c.head_at-h.ensures) c.read_operands-ops.ensures.0
-    c.in-Next.is c.requires
+    c.in-Ok.is c.requires
 
 pub returns : goal.returns
 returns c =
     use_left _ _ _ _ _ _ _ _ _ _ (shown _ _ _ c.requires.inside c.head_at-h.ensures) c.read_operands-ops.ensures.0
-    c.in-Next.is c.requires.sound.tables c.level_of.ensures.0 c.note_use.ensures
+    c.in-Ok.is c.requires.sound.tables c.level_of.ensures.0 c.note_use.ensures
     c.use_masks.ensures c.past.ensures

@@ -22,16 +22,16 @@ returns-in-Less c =
     (lead_less _ _ h.0 h.1 (omega (arith, c.if-a-x.false)) (omega (arith, c.if-b-y.false))
     (sym c.order_packets-o.ensures ∙ c.in-Less.is))
 
-pub returns-in-Same : goal.returns-in-Same
-returns-in-Same c =
+pub returns-in-Equal : goal.returns-in-Equal
+returns-in-Equal c =
     let h = c.requires in
-    rw c.taking-in-Same.ensures
+    rw c.taking-in-Equal.ensures
     (lead_same _ _ h.0 h.1 (omega (arith, c.if-a-x.false)) (omega (arith, c.if-b-y.false))
-    (sym c.order_packets-o.ensures ∙ c.in-Same.is))
+    (sym c.order_packets-o.ensures ∙ c.in-Equal.is))
 
-pub returns-in-More : goal.returns-in-More
-returns-in-More c =
+pub returns-in-Greater : goal.returns-in-Greater
+returns-in-Greater c =
     let h = c.requires in
-    rw c.taking-in-More.ensures
+    rw c.taking-in-Greater.ensures
     (lead_more _ _ h.0 h.1 (omega (arith, c.if-a-x.false)) (omega (arith, c.if-b-y.false))
-    (sym c.order_packets-o.ensures ∙ c.in-More.is))
+    (sym c.order_packets-o.ensures ∙ c.in-Greater.is))

@@ -1,6 +1,6 @@
 -- `joins::pair_slots` meets its contract: one pairing by itself, or all of them from copies.
 use Rattle.area.proofs.Lending.{back, tidied_long}
-use Rattle.area.proofs.Joining.{no_packets, lent_empty, paired_one, paired}
+use Rattle.area.proofs.Joining.{no_packets, lent_empty, paired_one, paired, pairs_some}
 use Rattle.area.proofs.joins.pair_slots.Goals as goal
 
 pub returns-then-b-eq1 : goal.returns-then-b-eq1
@@ -16,9 +16,14 @@ pub pairs_into-requires : goal.pairs_into-requires
 pairs_into-requires c =
     (lent_empty c.tidy.ensures, c.copy_out-x.ensures.packed, c.copy_out-y.ensures.packed)
 
+pub unwrap-requires : goal.unwrap-requires
+unwrap-requires c =
+    let g = c.args in
+    pairs_some g.work.now g.l g.r g.w _ _ c.copy_out-x.ensures c.copy_out-y.ensures c.before.requires.1 c.pairs_into.ensures
+
 pub returns : goal.returns
 returns c =
     let h = c.before.requires in
     let room = tidied_long h.0.first.area c.tidy.ensures in
     paired _ _ _ c.copy_out-x.ensures c.copy_out-y.ensures c.tidy.ensures
-    (back _ _ c.pairs_into.new.v h.0.there room c.pairs_into.auto.v) h.1 c.pairs_into.ensures
+    (back _ _ c.pairs_into.new.v h.0.there room c.pairs_into.auto.v) (rw c.unwrap.ensures at c.pairs_into.ensures)

@@ -8,10 +8,10 @@ use Rattle.printer.proofs.lines.refused.Goals as goal
 
 pub add_byte-requires : goal.add_byte-requires
 add_byte-requires c =
-    room_after _ c.opening.ensures (omega (arith, opening_few refused_word c.number_of-number.result c.args.r.place))
+    room_after _ c.opening.ensures (omega (arith, opening_few refused_word c.number.result c.args.r.place))
 
 pub returns : goal.returns
 unfolding refused_line
 returns c =
-    rw (← c.number_of-number.ensures)
+    rw (← c.number.ensures)
     (simp append_assoc at (holds_more c.opening.ensures c.add_byte.ensures))

@@ -3,10 +3,10 @@ use Rattle.rules.specs.Answers.{evaluated_says}
 use Rattle.trials.specs.Agreement.{numbers_of}
 use Rattle.trials.proofs.answers.evaluated_numbers.Goals as goal
 
-pub returns-in-Given : goal.returns-in-Given
+pub returns-in-Ok : goal.returns-in-Ok
 unfolding numbers_of evaluated_says
-returns-in-Given c = rw c.in-Given.is
+returns-in-Ok c = rw c.in-Ok.is
 
-pub returns-in-NotGiven : goal.returns-in-NotGiven
+pub returns-in-Err : goal.returns-in-Err
 unfolding evaluated_says
-returns-in-NotGiven c = rw c.in-NotGiven.is c.refusal_numbers.ensures
+returns-in-Err c = rw c.in-Err.is c.refusal_numbers.ensures

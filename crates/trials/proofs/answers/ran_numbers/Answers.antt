@@ -5,12 +5,12 @@ use Rattle.trials.proofs.answers.ran_numbers.Goals as goal
 
 pub returns-in-Finished : goal.returns-in-Finished
 unfolding numbers_of ran_says
-returns-in-Finished c = rw c.in-Finished.is
+returns-in-Finished c = rw (c.in-Ok.is, c.in-Finished.is)
 
 pub returns-in-Running : goal.returns-in-Running
 unfolding numbers_of ran_says
-returns-in-Running c = rw c.in-Running.is
+returns-in-Running c = rw (c.in-Ok.is, c.in-Running.is)
 
-pub returns-in-NotRun : goal.returns-in-NotRun
+pub returns-in-Err : goal.returns-in-Err
 unfolding ran_says
-returns-in-NotRun c = rw c.in-NotRun.is c.refusal_numbers.ensures
+returns-in-Err c = rw c.in-Err.is c.refusal_numbers.ensures

@@ -5,4 +5,4 @@ use Rattle.trials.proofs.answers.refusal_numbers.Goals as goal
 
 pub returns : goal.returns
 unfolding numbers_of refusal_says
-returns c = rw c.number_of-number.ensures
+returns c = rw c.number-number.ensures

@@ -3,10 +3,10 @@ use Rattle.rules.specs.Answers.{verdict_says}
 use Rattle.trials.specs.Agreement.{numbers_of}
 use Rattle.trials.proofs.answers.verdict_numbers.Goals as goal
 
-pub returns-in-Accepted : goal.returns-in-Accepted
+pub returns-in-Ok : goal.returns-in-Ok
 unfolding numbers_of verdict_says
-returns-in-Accepted c = rw c.in-Accepted.is
+returns-in-Ok c = rw c.in-Ok.is
 
-pub returns-in-Refused : goal.returns-in-Refused
+pub returns-in-Err : goal.returns-in-Err
 unfolding verdict_says
-returns-in-Refused c = rw c.in-Refused.is c.refusal_numbers.ensures
+returns-in-Err c = rw c.in-Err.is c.refusal_numbers.ensures

@@ -1,21 +1,13 @@
--- `marked` meets its contract. The invariant: the first i places hold their marks. Assumes nothing.
-use Rattle.trials.specs.Vectors.{marks}
-use native.Mathlib.Omega.{arith}
-use lib.Seq.{take-suc-set}
-use lib.ListN.{length}
-use native.Mathlib.Numerals.{add-one}
-use mathlib.Core.Path.{refl}
-use Prim.Native.Nat.{◌<◌}
-use borrow.Author.Rules.{rules}
+-- `marked` meets its contract: the closure keeps the seed. Assumes nothing.
+use Rattle.std.proofs.Common.{◌≡◌, refl, rules, arith}
+use Rattle.std.proofs.lemmas.List.FromFn.{fill_by_all}
+use Rattle.trials.proofs.Parts.{made_from}
+use Rattle.trials.specs.Vectors.{marker, marks}
 use Rattle.trials.proofs.vectors.marked.Goals as goal
 
-pub loop-i-init : goal.loop-i-init
+pub returns : goal.returns
 unfolding marks
-loop-i-init c = (search rules, search rules, refl)
-
-pub loop-i-preserved : goal.loop-i-preserved
-unfolding marks
-loop-i-preserved c =
-    let l = c.loop-i in
-    let inside : l.i < length l.words = omega arith in
-    (search rules, search rules, rw (add-one, take-suc-set l.words l.i _ inside, l.invariant.2, c.marker_at.ensures))
+returns c =
+    let made = c.from_fn.ensures.items in
+    fill_by_all (marker c.args.seed) c.from_fn.result 65536 0 made.long
+    (λ k h. made_from _ (marker c.args.seed) (λ p. p.0.now ≡ c.args.seed) (λ p q k y s called. search rules) _ c.from_fn.result 0 65536 refl made.each k (omega arith) h)
