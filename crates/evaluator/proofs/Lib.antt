@@ -5,4 +5,3 @@ pub mod Down
 pub mod Opening
 pub mod Answering
 pub mod Answer
-pub mod Weighing

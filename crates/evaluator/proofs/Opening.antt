@@ -4,6 +4,7 @@ use native.Mathlib.Omega.{arith}
 use mathlib.Core.Path.{◌≡◌, refl, sym, ap, ◌∙◌}
 use mathlib.Core.Bool.{Bool, true, false, cond, ◌||◌}
 use mathlib.Core.Option.{none, some}
+use Rattle.std.specs.Prelude.{Option, Some, None}
 use mathlib.Core.List.{List}
 use lib.Dec.{eqb}
 use lib.ListN.{get_or}
@@ -18,24 +19,19 @@ use Rattle.rules.proofs.ReadingLaws.{parts_small}
 use Rattle.rules.proofs.FineLaws.{OfUses}
 use Rattle.rules.proofs.Inside.{main_placed}
 use Rattle.evaluator.specs.Work.{Sees, IsAccepted, Populated}
-use Rattle.evaluator.specs.declared.Looked.{Looked}
-use Rattle.evaluator.proofs.WorkLaws.{no}
 use Rattle.rules.proofs.CodeLaws.{PartThere, stands_zero, stands_head, stands_as}
 
-abbrev pub looked : Bool → ℕ → Looked
-looked f n = record { found = f; next = n }
-
-pub sees_there : {s : List ℕ} {named : ℕ → Part} {d at n : ℕ} {p : Part} {r : Looked} → PartThere s named d at p n → Sees p n r
+sees_there : {s : List ℕ} {named : ℕ → Part} {d at n : ℕ} {p : Part} (r : Option ℕ) → PartThere s named d at p n → Sees p n r
     → Sees (part_at s named d at) (after s d at) r
-sees_there k h = rw (k.part, k.next) h
+sees_there r k h = rw (k.part, k.next) h
 
-sees_id : (n : ℕ) → Sees Id n (looked false n)
+sees_id : (n : ℕ) → Sees Id n (Some n)
 unfolding names_open
-sees_id n = record { found = refl; next = λ _. refl }
+sees_id n = (refl, refl)
 
 module _ (s : List ℕ) (named : ℕ → Part) (d at : ℕ) where
-  pub sees_zero : d ≡ 0 → Sees (part_at s named d at) (after s d at) (looked false at)
-  sees_zero e = sees_there (stands_zero s named d at e) (sees_id at)
+  pub sees_zero : d ≡ 0 → Sees (part_at s named d at) (after s d at) (Some at)
+  sees_zero e = sees_there (Some at) (stands_zero s named d at e) (sees_id at)
 
 -- by how many parts stand below
 abbrev over : ℕ → Bool → Bool → Bool
@@ -122,16 +118,19 @@ all_closed s v small h =
     fine_closed _ (use_at s) (λ m x l u. names_use s x ∙ ne_eqb (length_at s x) 0 (h x l u)) most_depth false (main_of s)
     (main_placed s v.0 v.1 small).fine
 
--- a use of a table, whose body has y bytes
-pub sees_use : (s : List ℕ) (x y at : ℕ) (f : Bool) → f ≡ eqb y 0 → y ≡ length_at s x → Sees (use_at s x) at (looked f at)
-sees_use s x y at f e g =
-    record { found = e ∙ ap (λ (z : ℕ). eqb z 0) g ∙ sym (names_use s x); next = λ _. refl }
+-- a use of a table that is not populated, and of one that is
+module _ (s : List ℕ) (x at : ℕ) where
+  pub sees_open : length_at s x ≡ 0 → Sees (use_at s x) at None
+  sees_open e = names_use s x ∙ rw e
+
+  pub sees_use : (length_at s x ≡ 0 → ⊥) → Sees (use_at s x) at (Some at)
+  sees_use e = (names_use s x ∙ ne_eqb (length_at s x) 0 e, refl)
 
 -- by the head h
 module _ (s : List ℕ) (named : ℕ → Part) (d at : ℕ) (hd : d ≡ 0 → ⊥) (h : Head) (eh : h ≡ head_at s at) where
-  pub sees_table : {r : Looked} → h.code ≡ 8 → Sees (named h.table) h.from r → Sees (part_at s named d at) (after s d at) r
+  pub sees_table : (r : Option ℕ) → h.code ≡ 8 → Sees (named h.table) h.from r → Sees (part_at s named d at) (after s d at) r
   unfolding built
-  sees_table e = sees_there (stands_as s named d at hd h eh 8 e)
+  sees_table r e = sees_there r (stands_as s named d at hd h eh 8 e)
 
   -- a code other than 8, with its row of the table of codes
   module _ (h8 : h.code ≡ 8 → ⊥) (x : Shape) (ex : x ≡ shape_at h.code) where
@@ -145,22 +144,25 @@ module _ (s : List ℕ) (named : ℕ → Part) (d at : ℕ) (hd : d ≡ 0 → �
     place : after s d at ≡ skip x.parts (after s (d - 1)) h.from
     place = (stands_head s named d at hd h eh).next ∙ rw below
 
-    pub sees_none : x.parts ≡ 0 → Sees (part_at s named d at) (after s d at) (looked false h.from)
-    sees_none e = record { found = sym (names ∙ rw e); next = λ _. sym (place ∙ rw e) }
+    pub sees_none : x.parts ≡ 0 → Sees (part_at s named d at) (after s d at) (Some h.from)
+    sees_none e = (names ∙ rw e, sym (place ∙ rw e))
 
-    module _ {a : Looked} (k : Sees (part_at s named (d - 1) h.from) (after s (d - 1) h.from) a) where
-      pub sees_found : a.found ≡ true → (x.parts ≡ 0 → ⊥) → Sees (part_at s named d at) (after s d at) a
-      sees_found e z =
-          record { found = e ∙ sym (names ∙ first x.parts _ _ z (sym k.found ∙ e)); next = λ f. no (sym e ∙ f) }
+    pub sees_one : (r : Option ℕ) → x.parts ≡ 1 → Sees (part_at s named (d - 1) h.from) (after s (d - 1) h.from) r
+        → Sees (part_at s named d at) (after s d at) r
+    sees_one None e k = names ∙ rw e k
+    sees_one (Some m) e k = (names ∙ rw e k.0, k.1 ∙ sym (place ∙ rw e))
 
-      pub sees_one : x.parts ≡ 1 → Sees (part_at s named d at) (after s d at) a
-      sees_one e = record { found = k.found ∙ sym (names ∙ rw e); next = λ f. k.next f ∙ sym (place ∙ rw e) }
+    pub sees_first : (x.parts ≡ 0 → ⊥) → Sees (part_at s named (d - 1) h.from) (after s (d - 1) h.from) None
+        → Sees (part_at s named d at) (after s d at) None
+    sees_first z k = names ∙ first x.parts _ _ z k
 
-      pub sees_two : {r : Looked} → a.found ≡ false → (x.parts ≡ 0 → ⊥) → (x.parts ≡ 1 → ⊥)
-          → Sees (part_at s named (d - 1) a.next) (after s (d - 1) a.next) r → Sees (part_at s named d at) (after s d at) r
-      sees_two {r} e z o m =
-          let b : x.parts ≤ 2 = rw ex (parts_small h.code) in
-          let t : x.parts ≡ 2 = omega arith in
-          let m' = rw (k.next e) at m in
-          let l : names_open (part_at s named (d - 1) h.from) ≡ false = sym k.found ∙ e in
-          record { found = m'.found ∙ sym (names ∙ rw (t, l)); next = λ f. m'.next f ∙ sym (place ∙ rw t) }
+    module _ {m : ℕ} (k : Sees (part_at s named (d - 1) h.from) (after s (d - 1) h.from) (Some m)) (z : x.parts ≡ 0 → ⊥)
+        (o : x.parts ≡ 1 → ⊥) where
+      two : x.parts ≡ 2
+      two = let b : x.parts ≤ 2 = rw ex (parts_small h.code) in omega arith
+
+      pub sees_two : (r : Option ℕ) → Sees (part_at s named (d - 1) m) (after s (d - 1) m) r → Sees (part_at s named d at) (after s d at) r
+      sees_two None n = names ∙ rw (two, k.0) (rw k.1 at n)
+      sees_two (Some i) n =
+          let n' = rw k.1 at n in
+          (names ∙ rw (two, k.0) n'.0, n'.1 ∙ sym (place ∙ rw two))

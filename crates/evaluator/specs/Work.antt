@@ -1,16 +1,16 @@
--- What the evaluator's functions require and give: a part at a place on an array of packets, or the news that it is too wide; the whole
--- answer. The field mask is not needed: a field that a position lacks holds 0.
-use Rattle.std.specs.Prelude.{ℕ, ◌+◌, ◌≤◌, ◌<◌, ◌≡◌, Bool, true, false, List, length, Ok}
-use Rattle.rules.specs.Packets.{places, Packets, most_packets}
+-- What the evaluator's functions require and give: a part at a place on the packets of a set, or the news that it is too wide. The field
+-- mask is not needed: a field that a position lacks holds 0.
+use Rattle.std.specs.Prelude.{ℕ, ◌≤◌, ◌<◌, ◌≡◌, Bool, true, false, List}
+use Rattle.std.specs.Prelude.{Option, Some, None, Result, Ok, Err}
+use Rattle.rules.specs.Packets.{Packets, most_packets}
 use Rattle.rules.specs.Parts.{Part, Not, Sum, Seq, Beside, parts, deep, names_open}
 use Rattle.rules.specs.Books.{most_parts, most_beside, no_use}
 use Rattle.rules.specs.declared.Head.{Head}
 use Rattle.rules.specs.declared.Sizes.{Sizes}
 use Rattle.rules.specs.Reading.{length_at, tables_of, verdict, part_at, use_at, after}
 use Rattle.rules.specs.Working.{out, steps, room, width}
-use Rattle.rows.specs.Chunks.{Held}
+use Rattle.sets.specs.declared.packet_set.TooWide.{TooWide}
 use Rattle.evaluator.specs.declared.Worked.{Worked}
-use Rattle.evaluator.specs.declared.Looked.{Looked}
 
 -- what a use of table x stands for, in the main body and in a table's
 unfoldable pub named_in : List ℕ → Bool → ℕ → Part
@@ -44,40 +44,32 @@ pub record Fair (p : Part) : Type 0 where
   pub shallow : deep p ≤ most_beside
   pub closed : names_open p ≡ false
 
--- an answer that is not too wide
-abbrev pub worked : ℕ → ℕ → ℕ → ℕ → Worked
-worked c n k a = record { wide = false; count = c; steps = n; room = k; next = a }
+-- so many steps, so much room, and the place after it
+abbrev pub worked : ℕ → ℕ → ℕ → Worked
+worked n k a = record { steps = n; room = k; next = a }
 
--- what a part p gives on the packets s, where it is not too wide: the array v; n is the place after it
-pub record NotWide (p : Part) (s : Packets) (n : ℕ) (v : List ℕ) (r : Worked) : Type 0 where
+-- what a part p gives on the packets s, where it is not too wide: the packets t; n is the place after it
+pub record NotWide (p : Part) (s : Packets) (n : ℕ) (t : Packets) (w : Worked) : Type 0 where
   pub narrow : width p s ≤ most_packets
-  pub held : Held places v r.count (out p s)
-  pub steps : r.steps ≡ steps p s
-  pub room : r.room ≡ room p s
-  pub next : r.next ≡ n
+  pub same : t ≡ out p s
+  pub steps : w.steps ≡ steps p s
+  pub room : w.room ≡ room p s
+  pub next : w.next ≡ n
 
 -- too wide exactly if it says so, and else fine
-pub record Did (p : Part) (s : Packets) (n : ℕ) (v : List ℕ) (r : Worked) : Type 0 where
-  pub over : r.wide ≡ true → most_packets < width p s
-  pub fine : r.wide ≡ false → NotWide p s n v r
+abbrev pub Did : Part → Packets → ℕ → Packets → Result Worked TooWide → Type 0
+Did p s n t (Ok w) = NotWide p s n t w
+Did p s n t (Err e) = most_packets < width p s
 
 -- small enough that the sums of two do not wrap
 pub record Small (r : Worked) : Type 0 where
   pub steps : r.steps ≤ 268173312
   pub room : r.room ≤ 268173313
 
--- r tells of the array v of the packets s, the union or the pairing of what a and b gave, and goes on after b
-pub record Joins (s : Packets) (v : List ℕ) (a b r : Worked) : Type 0 where
-  pub over : r.wide ≡ true → most_packets < length s
-  pub held : r.wide ≡ false → Held places v r.count s
-  pub steps : r.wide ≡ false → r.steps ≡ a.steps + b.steps + 2
-  pub room : r.wide ≡ false → r.room ≡ 1 + (a.room + b.room)
-  pub next : r.wide ≡ false → r.next ≡ b.next
-
--- whether p names an unpopulated table, and if not, the place after it
-pub record Sees (p : Part) (n : ℕ) (r : Looked) : Type 0 where
-  pub found : r.found ≡ names_open p
-  pub next : r.found ≡ false → r.next ≡ n
+-- the place after p, and none if p names an unpopulated table
+abbrev pub Sees : Part → ℕ → Option ℕ → Type 0
+Sees p n (Some k) = (names_open p ≡ false) × (k ≡ n)
+Sees p n None = names_open p ≡ true
 
 -- an accepted book; a book whose tables all have a body
 abbrev pub IsAccepted : List ℕ → Type 0

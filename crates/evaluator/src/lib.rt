@@ -1,38 +1,36 @@
 // The evaluator: one packet through a book (document 01, "Meaning", "Steps" and the numbers 8, 12, 9, 10).
-// evaluate_part and the functions of the codes call each other; all that they combine is done by functions outside that cycle. Each set is
-// a PacketSet by value; lent down the cycle is its array, with the number of its packets and their fields.
+// evaluate_part and the functions of the codes call each other; all that they combine is done by functions outside that cycle. Lent down
+// the cycle is one PacketSet, which holds the packets that come to a part and then those that it gives. The book and whether it is the main
+// body stay two parameters: in a struct of both, a clause would have to say body.entry.book.now where it says book.now.
 #![tactic(auto)]
 
-ghost use Rattle.std.specs.Prelude.{◌≡◌, true, false, List, [], ◌∷◌, ℕ, ◌≤◌, max, length, take, drop};
-ghost use Rattle.std.specs.Prelude.{Ok};
-ghost use Rattle.rules.specs.Packets.{places, Packets, keep, lacks};
-ghost use Rattle.rules.specs.Parts.{Part, Drop, Test, Set, Not, Seq, Beside, Table, names_open};
+ghost use Rattle.std.specs.Prelude.{◌≡◌, true, false, [], ◌∷◌, ◌+◌, ◌<◌, ◌≤◌, max, length, take, drop, Ok};
+ghost use Rattle.rules.specs.Packets.{places, keep, lacks};
+ghost use Rattle.rules.specs.Parts.{Drop, Test, Set, names_open};
 ghost use Rattle.rules.specs.Reading.{after, use_at, part_at, main_of, verdict};
-ghost use Rattle.rules.specs.Working.{out};
 ghost use Rattle.rules.specs.Answers.{start_set};
 ghost use Rattle.rules.specs.Promises.{EvaluateAnswer};
-ghost use Rattle.rows.specs.Chunks.{Packed, Held, Fits};
-ghost use Rattle.sets.specs.Whole.{packets_of};
+ghost use Rattle.sets.specs.Whole.{packets};
 ghost use Rattle.evaluator.specs.Work.{named_in, part_in, not_from, sum_from, seq_from, beside_of};
-ghost use Rattle.evaluator.specs.Work.{after_two, Fair, NotWide, Did, Small, Joins, Sees, IsAccepted, Populated, worked};
+ghost use Rattle.evaluator.specs.Work.{after_two, Fair, NotWide, Did, Small, Sees, IsAccepted, Populated, worked};
 ghost use Rattle.evaluator.specs.Passing.{Passable, Passes, Weighs};
 
 use rows::MOST;
 use rules::{Head, Outcome, Reason, Refusal, Sizes};
-use sets::{PLACES, Values};
+use sets::{PLACES, PacketSet, TooWide};
 
-// What a part gives on the packets of a lent array: too wide, or how many they are then, its steps and its room, and the place after it.
+// How deep the parts of a body lie at most.
+const DEPTH: usize = 32;
+
+// What a part comes to beside the packets: its steps, its room, and the place after it.
 #[derive(Clone, Copy)]
 struct Worked {
-    wide: bool,
-    count: usize,
     steps: u64,
     room: u64,
     next: usize,
 }
 
-// How far a packet comes in an accepted book: to a table that is not populated (9), to a part that is too wide (10), or through, with the
-// number of packets, N and the room.
+// How a packet comes through an accepted book: the number of packets, N and the room.
 #[derive(Clone, Copy)]
 pub struct Weight {
     pub count: usize,
@@ -40,40 +38,11 @@ pub struct Weight {
     pub room: u64,
 }
 
-#[derive(Clone, Copy)]
-pub enum Passage {
-    Open,
-    Wide,
-    Through(Weight),
-}
-
-// Whether a part names an unpopulated table, or the place after it.
-#[derive(Clone, Copy)]
-struct Looked {
-    found: bool,
-    next: usize,
-}
-
-// Too wide; the other values say nothing.
-fn too_wide() -> Worked
-    ensures { result.wide ≡ true }
+// A position with none below it, after so many steps.
+fn leaf(steps: u64, next: usize) -> Worked
+    ensures { result ≡ worked steps 1 next }
 {
     Worked {
-        wide: true,
-        count: 0,
-        steps: 0,
-        room: 0,
-        next: 0,
-    }
-}
-
-// A position with none below it, which gives so many packets after so many steps.
-fn leaf(count: usize, steps: u64, next: usize) -> Worked
-    ensures { result ≡ worked count steps 1 next }
-{
-    Worked {
-        wide: false,
-        count,
         steps,
         room: 1,
         next,
@@ -81,118 +50,92 @@ fn leaf(count: usize, steps: u64, next: usize) -> Worked
 }
 
 // Code 1.
-fn drop_of(v: &mut Values, n: usize, next: usize) -> Worked
-    requires { Packed places v.old n }
-    ensures { Did Drop (packets_of n v.old) next v.new result }
+fn drop_of(set: &mut PacketSet, next: usize) -> Worked
+    ensures { NotWide Drop (packets set.old) next (packets set.new) result }
 {
-    rows::clear_rows(v, 0, n, PLACES);
-    leaf(0, 1, next)
+    set.clear();
+    leaf(1, next)
 }
 
 // Codes 2 and 3.
-fn test_of(f: u8, x: u16, v: &mut Values, n: usize, next: usize) -> Worked
-    requires { Packed places v.old n }
-    ensures { Did (Test f x) (packets_of n v.old) next v.new result }
+fn test_of(field: u8, value: u16, set: &mut PacketSet, next: usize) -> Worked
+    ensures { NotWide (Test field value) (packets set.old) next (packets set.new) result }
 {
-    let some = sets::keep_in(v, n, f as usize, x, PLACES);
-    leaf(some, 1, next)
+    set.keep(field, value);
+    leaf(1, next)
 }
 
-fn set_of(f: u8, x: u16, v: &mut Values, n: usize, next: usize) -> Worked
-    requires { Packed places v.old n }
-    ensures { Did (Set f x) (packets_of n v.old) next v.new result }
+fn set_of(field: u8, value: u16, set: &mut PacketSet, next: usize) -> Worked
+    ensures { NotWide (Set field value) (packets set.old) next (packets set.new) result }
 {
-    let changed = sets::set_in(v, n, f as usize, x, PLACES);
-    leaf(changed, 1, next)
+    set.set(field, value);
+    leaf(1, next)
 }
 
-// The packets of v that are not among the m of x: packet by packet, not by whether x has any.
-fn not_given(v: &mut Values, n: usize, x: &Values, m: usize) -> usize
-    requires { Packed places v.old n × Packed places x.now m }
-    ensures { Held places v.new result (keep (lacks (packets_of m x.now)) (packets_of n v.old)) }
+// Without the packets given: packet by packet, not by whether there are any.
+fn not_given(set: &mut PacketSet, given: &PacketSet)
+    ensures { packets set.new ≡ keep (lacks (packets given.now)) (packets set.old) }
 {
-    sets::difference_in(v, n, x, m, PLACES)
+    set.remove(given);
 }
 
-// The packets of v that a did not give, which are in x.
-fn not_of(v: &mut Values, n: usize, x: &Values, a: Worked) -> Worked
-    requires { Packed places v.old n × Packed places x.now a.count × Small a }
-    ensures { (p : Part) (k : ℕ) → NotWide p (packets_of n v.old) k x.now a
-        → Did (Not p) (packets_of n v.old) k v.new result }
+// The negation of a part that comes to this.
+fn not_of(part: Worked) -> Worked
+    requires { Small part }
+    ensures { result ≡ worked (part.steps + 2) (1 + part.room) part.next }
 {
-    let m = a.count;
-    let kept = not_given(v, n, x, m);
     Worked {
-        wide: false,
-        count: kept,
-        steps: a.steps + 2,
-        room: 1 + a.room,
-        next: a.next,
+        steps: part.steps + 2,
+        room: 1 + part.room,
+        next: part.next,
     }
 }
 
-// The union or pairing of what a and b gave, so many packets, with the steps of both and 2, and the room of both and 1; too wide, where
-// there is no count.
-fn joined(count: Option<usize>, a: Worked, b: Worked) -> Worked
-    requires { Small a × Small b }
-    ensures { (s : Packets) (v : List ℕ) → Fits places v count s → Joins s v a b result }
+// The union or the pairing of what two parts come to.
+fn joined(first: Worked, second: Worked) -> Worked
+    requires first_small { Small first }
+    requires second_small { Small second }
+    ensures { result ≡ worked (first.steps + second.steps + 2) (1 + (first.room + second.room)) second.next }
 {
-    let Some(count) = count else {
-        return too_wide();
-    };
     Worked {
-        wide: false,
-        count,
-        steps: a.steps + b.steps + 2,
-        room: 1 + (a.room + b.room),
-        next: b.next,
+        steps: first.steps + second.steps + 2,
+        room: 1 + (first.room + second.room),
+        next: second.next,
     }
 }
 
-fn larger(x: u64, y: u64) -> u64
-    ensures { result ≡ max x y }
-{
-    if x < y { y } else { x }
-}
-
-// What b gave, after a.
-fn seq_of(a: Worked, b: Worked) -> Worked
-    requires { Small a × Small b }
-    ensures { (p q : Part) (s : Packets) (n k : ℕ) (x v : List ℕ) → NotWide p s n x a → NotWide q (out p s) k v b
-        → Did (Seq p q) s k v result }
+// What the second part comes to, after the first.
+fn seq_of(first: Worked, second: Worked) -> Worked
+    requires first_small { Small first }
+    requires second_small { Small second }
+    ensures { result ≡ worked (first.steps + second.steps + 1) (max (1 + first.room) second.room) second.next }
 {
     Worked {
-        wide: false,
-        count: b.count,
-        steps: a.steps + b.steps + 1,
-        room: larger(1 + a.room, b.room),
-        next: b.next,
+        steps: first.steps + second.steps + 1,
+        room: (1 + first.room).max(second.room),
+        next: second.next,
     }
 }
 
-// What a table's body gave; the use of the table ends before next.
-fn table_of(a: Worked, next: usize) -> Worked
-    requires { Small a }
-    ensures { (x rd w start : ℕ) (p : Part) (s : Packets) (n : ℕ) (v : List ℕ) → NotWide p s n v a
-        → Did (Table x rd w start p) s next v result }
+// What a table's body comes to; the use of the table ends before next.
+fn table_of(body: Worked, next: usize) -> Worked
+    requires { Small body }
+    ensures { result ≡ worked (1 + body.steps) body.room next }
 {
     Worked {
-        wide: false,
-        count: a.count,
-        steps: 1 + a.steps,
-        room: a.room,
+        steps: 1 + body.steps,
+        room: body.room,
         next,
     }
 }
 
 // A concurrent part on no packet, the parts below it from a place on.
 fn none_at(book: &[u8], from: usize, depth: usize) -> Worked
-    ensures { (wp wq : ℕ) (p q : Part) (v : List ℕ) → Held places v 0 []
-        → Did (Beside wp wq p q) [] (after_two book.now depth from) v result }
+    ensures { result ≡ worked 1 1 (after_two book.now depth from) }
 {
     let middle = book::place_after(book, from, depth);
     let end = book::place_after(book, middle, depth);
-    leaf(0, 1, end)
+    leaf(1, end)
 }
 
 // Code 4, the part below it at a place.
@@ -202,22 +145,16 @@ fn not_at(
     main: bool,
     from: usize,
     depth: usize,
-    v: &mut Values,
-    n: usize,
-    fields: u8,
-) -> Worked
-    requires { Fair (not_from book.now main depth from) × Packed places v.old n }
+    set: &mut PacketSet,
+) -> Result<Worked, TooWide>
+    requires { Fair (not_from book.now main depth from) }
     ensures { Did (not_from book.now main depth from)
-        (packets_of n v.old) (after book.now depth from) v.new result }
+        (packets set.old) (after book.now depth from) (packets set.new) result }
 {
-    let mut x = sets::copy_of(v, n, fields);
-    let given = x.count;
-    let a = evaluate_part(book, main, from, depth, &mut x.values, given, fields);
-    if a.wide {
-        return a;
-    }
-    x.count = a.count;
-    not_of(v, n, &x.values, a)
+    let mut given = set.copied();
+    let part = evaluate_part(book, main, from, depth, &mut given)?;
+    not_given(set, &given);
+    Ok(not_of(part))
 }
 
 // Code 5, the parts below it from a place on.
@@ -227,30 +164,17 @@ fn sum_at(
     main: bool,
     from: usize,
     depth: usize,
-    v: &mut Values,
-    n: usize,
-    fields: u8,
-) -> Worked
-    requires { Fair (sum_from book.now main depth from) × Packed places v.old n }
+    set: &mut PacketSet,
+) -> Result<Worked, TooWide>
+    requires { Fair (sum_from book.now main depth from) }
     ensures { Did (sum_from book.now main depth from)
-        (packets_of n v.old) (after_two book.now depth from) v.new result }
+        (packets set.old) (after_two book.now depth from) (packets set.new) result }
 {
-    let mut x = sets::copy_of(v, n, fields);
-    let a = evaluate_part(book, main, from, depth, v, n, fields);
-    if a.wide {
-        return a;
-    }
-    let middle = a.next;
-    let given = x.count;
-    let b = evaluate_part(book, main, middle, depth, &mut x.values, given, fields);
-    if b.wide {
-        return b;
-    }
-    x.count = b.count;
-    let left = a.count;
-    let right = x.count;
-    let count = sets::union_in(v, left, &x.values, right, PLACES);
-    joined(count, a, b)
+    let mut other = set.copied();
+    let first = evaluate_part(book, main, from, depth, set)?;
+    let second = evaluate_part(book, main, first.next, depth, &mut other)?;
+    set.join(&other)?;
+    Ok(joined(first, second))
 }
 
 // Code 6, the parts below it from a place on.
@@ -260,256 +184,186 @@ fn seq_at(
     main: bool,
     from: usize,
     depth: usize,
-    v: &mut Values,
-    n: usize,
-    fields: u8,
-) -> Worked
-    requires { Fair (seq_from book.now main depth from) × Packed places v.old n }
+    set: &mut PacketSet,
+) -> Result<Worked, TooWide>
+    requires { Fair (seq_from book.now main depth from) }
     ensures { Did (seq_from book.now main depth from)
-        (packets_of n v.old) (after_two book.now depth from) v.new result }
+        (packets set.old) (after_two book.now depth from) (packets set.new) result }
 {
-    let a = evaluate_part(book, main, from, depth, v, n, fields);
-    if a.wide {
-        return a;
-    }
-    let middle = a.next;
-    let given = a.count;
-    let b = evaluate_part(book, main, middle, depth, v, given, fields);
-    if b.wide {
-        return b;
-    }
-    seq_of(a, b)
+    let first = evaluate_part(book, main, from, depth, set)?;
+    let second = evaluate_part(book, main, first.next, depth, set)?;
+    Ok(seq_of(first, second))
 }
 
-// Code 7 by its head, on one packet, a row by itself: each side without the fields that the other writes. Put into zeros.
+// Code 7 by its head, on one packet, a row by itself: each side without the fields that the other writes. Put into a set with none.
 #[cycle(evaluating)]
 fn one_packet(
     book: &[u8],
     main: bool,
-    h: Head,
+    head: Head,
     depth: usize,
-    p: &[u16],
-    out: &mut Values,
-    fields: u8,
-) -> Worked
-    requires { (places ≤ length p.now) × Held places out.old 0 [] × Fair (beside_of book.now main depth h) }
-    ensures { Did (beside_of book.now main depth h)
-        (take places p.now ∷ []) (after_two book.now depth h.from) out.new result }
+    row: &[u16],
+    out: &mut PacketSet,
+) -> Result<Worked, TooWide>
+    requires row { places ≤ length row.now }
+    requires none_yet { packets out.old ≡ [] }
+    requires fair { Fair (beside_of book.now main depth head) }
+    ensures { Did (beside_of book.now main depth head)
+        (take places row.now ∷ []) (after_two book.now depth head.from) (packets out.new) result }
 {
-    let mut x = sets::alone(p, h.right, fields);
-    let given = x.count;
-    let has = x.mask;
-    let a = evaluate_part(book, main, h.from, depth, &mut x.values, given, has);
-    if a.wide {
-        return a;
-    }
-    x.count = a.count;
-    let middle = a.next;
-    let mut y = sets::alone(p, h.left, fields);
-    let given = y.count;
-    let has = y.mask;
-    let b = evaluate_part(book, main, middle, depth, &mut y.values, given, has);
-    if b.wide {
-        return b;
-    }
-    y.count = b.count;
-    let left = x.count;
-    let right = y.count;
-    let count = sets::pairs_into(
-        out,
-        &x.values,
-        left,
-        &y.values,
-        right,
-        h.right as u16,
-        PLACES,
-    );
-    joined(count, a, b)
+    let mut left = PacketSet::alone(row, head.right, out.mask);
+    let first = evaluate_part(book, main, head.from, depth, &mut left)?;
+    let mut right = PacketSet::alone(row, head.left, out.mask);
+    let second = evaluate_part(book, main, first.next, depth, &mut right)?;
+    out.pair(&left, &right, head.right)?;
+    Ok(joined(first, second))
 }
 
-// Code 7 by its head, on the n packets of v from number i on: one alone, or the lowest and the rest joined. Put into zeros.
+// Code 7 by its head, on the packets of a set from number i on: one alone, or the lowest and the rest joined. Put into a set with none.
 #[cycle(evaluating)]
 fn walk_packets(
     book: &[u8],
     main: bool,
-    h: Head,
+    head: Head,
     depth: usize,
-    v: &Values,
-    n: usize,
+    set: &PacketSet,
     i: usize,
-    out: &mut Values,
-    fields: u8,
-) -> Worked
-    requires { (i ≤ n) × Packed places v.now n × Held places out.old 0 []
-        × Fair (beside_of book.now main depth h) }
-    ensures { Did (beside_of book.now main depth h) (drop i
-        (packets_of n v.now)) (after_two book.now depth h.from) out.new result }
+    out: &mut PacketSet,
+) -> Result<Worked, TooWide>
+    requires within { i ≤ set.now.count }
+    requires none_yet { packets out.old ≡ [] }
+    requires fair { Fair (beside_of book.now main depth head) }
+    ensures { Did (beside_of book.now main depth head)
+        (drop i (packets set.now)) (after_two book.now depth head.from) (packets out.new) result }
 {
-    if i == n {
-        return none_at(book, h.from, depth);
+    if i == set.count {
+        return Ok(none_at(book, head.from, depth));
     }
-    let p = rows::row(v, i, PLACES);
-    let a = one_packet(book, main, h, depth, &p, out, fields);
-    if a.wide {
-        return a;
+    let row = set.packet(i);
+    let first = one_packet(book, main, head, depth, &row, out)?;
+    if i + 1 == set.count {
+        return Ok(first);
     }
-    if i + 1 == n {
-        return a;
-    }
-    let mut rest = sets::empty(fields);
-    let b = walk_packets(book, main, h, depth, v, n, i + 1, &mut rest.values, fields);
-    if b.wide {
-        return b;
-    }
-    rest.count = b.count;
-    let left = a.count;
-    let right = rest.count;
-    let count = sets::union_in(out, left, &rest.values, right, PLACES);
-    joined(count, a, b)
+    let mut rest = PacketSet::empty(out.mask);
+    let second = walk_packets(book, main, head, depth, set, i + 1, &mut rest)?;
+    out.join(&rest)?;
+    Ok(joined(first, second))
 }
 
-// Code 7 by its head: one packet by itself, more packet by packet from a copy of the array, into the array.
+// Code 7 by its head: one packet by itself, more packet by packet from a copy of the set, into the set.
 #[cycle(evaluating)]
 fn beside_at(
     book: &[u8],
     main: bool,
-    h: Head,
+    head: Head,
     depth: usize,
-    v: &mut Values,
-    n: usize,
-    fields: u8,
-) -> Worked
-    requires { Fair (beside_of book.now main depth h) × Packed places v.old n }
-    ensures { Did (beside_of book.now main depth h)
-        (packets_of n v.old) (after_two book.now depth h.from) v.new result }
+    set: &mut PacketSet,
+) -> Result<Worked, TooWide>
+    requires { Fair (beside_of book.now main depth head) }
+    ensures { Did (beside_of book.now main depth head)
+        (packets set.old) (after_two book.now depth head.from) (packets set.new) result }
 {
-    if n == 1 {
-        let p = rows::row(v, 0, PLACES);
-        rows::clear_rows(v, 0, n, PLACES);
-        return one_packet(book, main, h, depth, &p, v, fields);
+    if set.count == 1 {
+        let row = set.packet(0);
+        set.clear();
+        return one_packet(book, main, head, depth, &row, set);
     }
-    let x = sets::copy_of(v, n, fields);
-    rows::clear_rows(v, 0, n, PLACES);
-    let given = x.count;
-    walk_packets(book, main, h, depth, &x.values, given, 0, v, fields)
+    let whole = set.copied();
+    set.clear();
+    walk_packets(book, main, head, depth, &whole, 0, set)
 }
 
-// Code 8, a use of table x: the table's body in the main body, nothing in a table's.
+// Code 8, a use of a table: the table's body in the main body, nothing in a table's.
 #[cycle(evaluating)]
 fn table_at(
     book: &[u8],
     main: bool,
-    x: u8,
+    table: u8,
     next: usize,
-    v: &mut Values,
-    n: usize,
-    fields: u8,
-) -> Worked
-    requires { Fair (named_in book.now main x) × Packed places v.old n }
-    ensures { Did (named_in book.now main x) (packets_of n v.old) next v.new result }
+    set: &mut PacketSet,
+) -> Result<Worked, TooWide>
+    requires { Fair (named_in book.now main table) }
+    ensures { Did (named_in book.now main table)
+        (packets set.old) next (packets set.new) result }
 {
-    if main {
-        let start = book::body_start(book, x);
-        let a = evaluate_part(book, false, start, 32, v, n, fields);
-        if a.wide {
-            return a;
-        }
-        table_of(a, next)
-    } else {
-        leaf(n, 0, next)
+    if !main {
+        return Ok(leaf(0, next));
     }
+    let start = book::body_start(book, table);
+    let body = evaluate_part(book, false, start, DEPTH, set)?;
+    Ok(table_of(body, next))
 }
 
-// The part at a place, in the main body or in a table's, on the n packets of v, which have the fields. Past the end, and below the depth,
-// stands id.
+// The part at a place, in the main body or in a table's, on the packets of a set. Past the end, and below the depth, stands id.
 #[cycle(evaluating)]
 fn evaluate_part(
     book: &[u8],
     main: bool,
     at: usize,
     depth: usize,
-    v: &mut Values,
-    n: usize,
-    fields: u8,
-) -> Worked
-    requires { Fair (part_in book.now main depth at) × Packed places v.old n }
+    set: &mut PacketSet,
+) -> Result<Worked, TooWide>
+    requires { Fair (part_in book.now main depth at) }
     ensures { Did (part_in book.now main depth at)
-        (packets_of n v.old) (after book.now depth at) v.new result }
+        (packets set.old) (after book.now depth at) (packets set.new) result }
 {
     if depth == 0 {
-        return leaf(n, 0, at);
+        return Ok(leaf(0, at));
     }
-    let h = book::head_at(book, at);
-    let code = h.code;
+    let head = book::head_at(book, at);
     let below = depth - 1;
-    match code {
-        1 => drop_of(v, n, h.from),
-        2 => test_of(h.field, h.value, v, n, h.from),
-        3 => set_of(h.field, h.value, v, n, h.from),
-        4 => not_at(book, main, h.from, below, v, n, fields),
-        5 => sum_at(book, main, h.from, below, v, n, fields),
-        6 => seq_at(book, main, h.from, below, v, n, fields),
-        7 => beside_at(book, main, h, below, v, n, fields),
-        8 => table_at(book, main, h.table, h.from, v, n, fields),
-        _ => leaf(n, 0, h.from),
+    match head.code {
+        1 => Ok(drop_of(set, head.from)),
+        2 => Ok(test_of(head.field, head.value, set, head.from)),
+        3 => Ok(set_of(head.field, head.value, set, head.from)),
+        4 => not_at(book, main, head.from, below, set),
+        5 => sum_at(book, main, head.from, below, set),
+        6 => seq_at(book, main, head.from, below, set),
+        7 => beside_at(book, main, head, below, set),
+        8 => table_at(book, main, head.table, head.from, set),
+        _ => Ok(leaf(0, head.from)),
     }
 }
 
-// A use of table x in the main body, which ends before next.
-fn look_table(book: &[u8], x: u8, next: usize) -> Looked
-    ensures { Sees (use_at book.now x) next result }
+// Where a use of a table ends, which is next; None where the table is not populated.
+fn look_table(book: &[u8], table: u8, next: usize) -> Option<usize>
+    ensures { Sees (use_at book.now table) next result }
 {
-    let size = book::length_of(book, x);
-    Looked {
-        found: size == 0,
-        next,
+    if book::length_of(book, table) == 0 {
+        return None;
     }
+    Some(next)
 }
 
-// The part at a place of the main body: whether it names an unpopulated table.
-fn look_part(book: &[u8], at: usize, depth: usize) -> Looked
+// The place after the part at a place of the main body; None where the part names an unpopulated table.
+fn look_part(book: &[u8], at: usize, depth: usize) -> Option<usize>
     ensures { Sees (part_at book.now (use_at book.now) depth at) (after book.now depth at) result }
 {
     if depth == 0 {
-        return Looked {
-            found: false,
-            next: at,
-        };
+        return Some(at);
     }
-    let h = book::head_at(book, at);
-    if h.code == 8 {
-        return look_table(book, h.table, h.from);
+    let head = book::head_at(book, at);
+    if head.code == 8 {
+        return look_table(book, head.table, head.from);
     }
-    let shape = rules::shape_of(h.code);
-    let parts = shape.parts;
-    if parts == 0 {
-        return Looked {
-            found: false,
-            next: h.from,
-        };
+    match rules::shape_of(head.code).parts {
+        0 => Some(head.from),
+        1 => look_part(book, head.from, depth - 1),
+        _ => {
+            let middle = look_part(book, head.from, depth - 1)?;
+            look_part(book, middle, depth - 1)
+        }
     }
-    let a = look_part(book, h.from, depth - 1);
-    if a.found {
-        return a;
-    }
-    if parts == 1 {
-        return a;
-    }
-    let middle = a.next;
-    look_part(book, middle, depth - 1)
 }
 
 // Whether every table is populated.
 fn all_populated(book: &[u8]) -> bool
     ensures { result ≡ true → Populated book.now }
 {
-    let m = book::byte_at(book, 1) as usize;
-    let mut x: usize = 1;
-    while x <= m {
-        if book::length_of(book, x as u8) == 0 {
+    for x in 1..=book::byte_at(book, 1) {
+        if book::length_of(book, x) == 0 {
             return false;
         }
-        x += 1;
     }
     true
 }
@@ -519,50 +373,33 @@ fn names_open(book: &[u8]) -> bool
     requires { IsAccepted book.now }
     ensures { result ≡ names_open (main_of book.now) }
 {
-    if all_populated(book) {
-        return false;
-    }
-    let seen = look_part(book, book::body_start(book, 0), 32);
-    seen.found
+    !all_populated(book) && look_part(book, book::body_start(book, 0), DEPTH).is_none()
 }
 
-// The packet that comes in, put into an array of zeros.
-fn start_in(packet: &[u16], v: &mut Values)
-    requires { (length packet.now ≤ places) × Held places v.old 0 [] }
-    ensures { Held places v.new 1 (start_set packet.now) }
-{
-    rows::put_row(v, 0, &rows::padded(packet), PLACES);
-}
-
-// One packet through the main policy of an accepted book, in an array of zeros: the packets that it gives are left there.
-fn pass(book: &[u8], packet: &[u16], v: &mut Values, fields: u8) -> Passage
-    requires { Passable book.now packet.now × Held places v.old 0 [] }
-    ensures { Passes book.now packet.now result v.new }
+// One packet through the main policy of an accepted book, in a set that has it alone: the packets that it gives are left there.
+fn pass(book: &[u8], packet: &[u16], set: &mut PacketSet) -> Result<Weight, Reason>
+    requires passable { Passable book.now packet.now }
+    requires alone { packets set.old ≡ start_set packet.now }
+    ensures { Passes book.now packet.now result (packets set.new) }
 {
     if names_open(book) {
-        return Passage::Open;
+        return Err(Reason::Unpopulated);
     }
     let start = book::body_start(book, 0);
-    start_in(packet, v);
-    let w = evaluate_part(book, true, start, 32, v, 1, fields);
-    if w.wide {
-        return Passage::Wide;
-    }
-    Passage::Through(Weight {
-        count: w.count,
+    let w = evaluate_part(book, true, start, DEPTH, set)?;
+    Ok(Weight {
+        count: set.count,
         steps: w.steps,
         room: w.room,
     })
 }
 
 // The same for a caller that wants no packets: 9, 10 or the room.
-pub fn weigh(book: &[u8], packet: &[u16]) -> Passage
+pub fn weigh(book: &[u8], packet: &[u16]) -> Result<Weight, Reason>
     requires { Passable book.now packet.now }
     ensures { Weighs book.now packet.now result }
 {
-    let fields = sets::all_fields(packet.len());
-    let mut set = sets::empty(fields);
-    pass(book, packet, &mut set.values, fields)
+    pass(book, packet, &mut PacketSet::of(packet))
 }
 
 // One packet through an accepted book: 8, 12, 9, 10 in this order, or the packets in the result.
@@ -582,24 +419,16 @@ fn evaluate_accepted(
     if res.len() < MOST * k {
         return Err(Reason::BufferLength.into());
     }
-    let fields = sets::all_fields(k);
-    let mut set = sets::empty(fields);
-    let passage = pass(book, packet, &mut set.values, fields);
-    match passage {
-        Passage::Open => Err(Reason::Unpopulated.into()),
-        Passage::Wide => Err(Reason::TooWide.into()),
-        Passage::Through(w) => {
-            let count = w.count;
-            let written = rows::emit_rows(&set.values, count, k, PLACES, res);
-            Ok(Outcome {
-                count,
-                steps: w.steps,
-                parts: z.parts,
-                deep: z.deep,
-                room: w.room,
-            })
-        }
-    }
+    let mut set = PacketSet::of(packet);
+    let weight = pass(book, packet, &mut set)?;
+    let _fits = rows::emit_rows(&set.values, set.count, k, PLACES, res);
+    Ok(Outcome {
+        count: weight.count,
+        steps: weight.steps,
+        parts: z.parts,
+        deep: z.deep,
+        room: weight.room,
+    })
 }
 
 // One packet through a book: why it is turned away, or the count, N, n, D and the room, and the packets in the result.

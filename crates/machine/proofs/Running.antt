@@ -3,9 +3,11 @@ use Rattle.std.specs.Prelude.{Err, Ok, Result}
 use Prim.Native.Nat.{ℕ, ◌*◌, ◌≤◌, ◌<◌}
 use native.Mathlib.Omega.{arith}
 use mathlib.Core.Path.{◌≡◌, refl, sym, ap, ◌∙◌}
+use mathlib.Core.Logic.{inl, inr}
 use mathlib.Core.List.{List, [], ◌∷◌}
 use lib.ListN.{length, replicate}
-use Rattle.rules.specs.declared.Reason.TheVariants.{PacketLength, Unpopulated, TooWide, Positions, BufferLength}
+use Rattle.rules.specs.declared.Reason.{Reason}
+use Rattle.rules.specs.declared.Reason.TheVariants.{PacketLength, Positions, BufferLength}
 use Rattle.rules.specs.declared.Refusal.{Refusal}
 use Rattle.rules.specs.declared.Sizes.{Sizes}
 use Rattle.rules.specs.declared.Ran.{Ran}
@@ -20,10 +22,7 @@ use Rattle.rules.proofs.AcceptedBooks.{accepted_sizes, accepted_fields}
 use Rattle.rules.proofs.Answering.{not_run_keeps, ran_refused, ran_packet, ran_result_lem, ran_area_lem, ran_open, ran_wide, ran_positions}
 use Rattle.rules.proofs.Answering.{ran_admitted, run_answer}
 use Rattle.evaluator.specs.declared.Weight.{Weight}
-use Rattle.evaluator.specs.declared.Passage.{Passage}
-use Rattle.evaluator.specs.declared.Passage.TheVariants.{Open, Wide, Through}
-use Rattle.evaluator.specs.Passing.{Passable, Weighs}
-use Rattle.evaluator.proofs.Weighing.{weighs_open, weighs_wide, weighs_through}
+use Rattle.evaluator.specs.Passing.{Passable, Passed, Stopped}
 use Rattle.steps.specs.Standing.{Runnable, Readable}
 use Rattle.machine.specs.Runs.{Playable}
 use Rattle.area.specs.Words.{positions}
@@ -75,30 +74,26 @@ module _ (book packet schedule result work : List ℕ) where
           → RunAnswer book packet schedule result work (Err (no_place BufferLength)) result work
       refused_area a = turned_away _ (ran_area_lem book packet schedule (length result) (length work) z v words a)
 
-      module _ (l : 16 * z.fields ≤ length result) (a : area_words ≤ length work) (r : Passage) (weighs : Weighs book packet r) where
+      module _ (l : 16 * z.fields ≤ length result) (a : area_words ≤ length work) where
         fits : 16 * fields_of book ≤ length result
         fits = rw (fields_are book z v).0 at l
 
-        pub refused_open : r ≡ Open → RunAnswer book packet schedule result work (Err (no_place Unpopulated)) result work
-        refused_open e =
-            turned_away _
-            (ran_open book packet schedule (length result) (length work) z v words fits a (weighs_open book packet (rw e at weighs)))
+        pub refused_stopped : (why : Reason) → Stopped book packet why
+            → RunAnswer book packet schedule result work (Err (no_place why)) result work
+        refused_stopped why (inl h) =
+            rw h.0 (turned_away _ (ran_open book packet schedule (length result) (length work) z v words fits a h.1))
+        refused_stopped why (inr h) =
+            rw h.0
+            (turned_away _
+            (ran_wide book packet schedule (length result) (length work) z v words fits a h.1.populated h.1.wide))
 
-        pub refused_wide : r ≡ Wide → RunAnswer book packet schedule result work (Err (no_place TooWide)) result work
-        refused_wide e =
-            let w = weighs_wide book packet (rw e at weighs) in
-            turned_away _
-            (ran_wide book packet schedule (length result) (length work) z v words fits a w.populated w.wide)
-
-        pub weighed : (w : Weight) → r ≡ Through w → Weighed book packet result work w.room
-        weighed w e =
-            let g = weighs_through book packet w (rw e at weighs) in
-            record {
-              granted = record { sizes = z; accepted = v; words = words; populated = g.0; narrow = g.1 };
-              room = g.2;
-              fits = fits;
-              wide = a;
-            }
+        pub weighed : (w : Weight) (t : Packets) → Passed book packet w t → Weighed book packet result work w.room
+        weighed w t g = record {
+          granted = record { sizes = z; accepted = v; words = words; populated = g.populated; narrow = g.narrow };
+          room = g.room;
+          fits = fits;
+          wide = a;
+        }
 
   -- past 10: 11 is left
   module _ (needs : ℕ) (w : Weighed book packet result work needs) where

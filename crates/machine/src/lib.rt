@@ -15,7 +15,6 @@ ghost use Rattle.rules.specs.Promises.{RunAnswer};
 ghost use Rattle.machine.specs.Answered.{Weighed};
 
 use area::{AREA_WORDS, POSITIONS};
-use evaluator::Passage;
 use play::conduct;
 use rules::{Ran, Reason, Refusal, Sizes};
 
@@ -62,12 +61,8 @@ pub fn run_accepted(
     if work.len() < AREA_WORDS {
         return Err(Reason::BufferLength.into());
     }
-    let passage = evaluator::weigh(book, packet);
-    match passage {
-        Passage::Open => Err(Reason::Unpopulated.into()),
-        Passage::Wide => Err(Reason::TooWide.into()),
-        Passage::Through(w) => run_weighed(book, packet, schedule, res, work, w.room),
-    }
+    let weight = evaluator::weigh(book, packet)?;
+    run_weighed(book, packet, schedule, res, work, weight.room)
 }
 
 // A book's bytes, a packet's words and a schedule of choices run in a lent working area: document 01's answer, and both buffers after it.

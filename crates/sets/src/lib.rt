@@ -1,6 +1,8 @@
-// Packet sets (document 01, "Packets and sets"): the struct that holds one by value, and what is done to the packets of a lent array with
-// room for 16, in place: kept, set, put in, joined, taken away and paired. There a row has r places; no function works on the places.
+// Packet sets (document 01, "Packets and sets"): what is done to the packets of a lent array with room for 16, in place: kept, set, put in,
+// joined, taken away and paired. A row has r places; no function works on the places. A set by value stands in packet_set.
 #![tactic(auto)]
+
+mod packet_set;
 
 ghost use Rattle.std.specs.Prelude.{◌≡◌, true, [], ◌∷◌, map, ◌+◌, ◌<◌, ◌≤◌, length, take, get_or};
 ghost use Rattle.std.proofs.Math.Seq.{slice};
@@ -8,73 +10,10 @@ ghost use Rattle.rules.specs.Masks.{all_fields, less};
 ghost use Rattle.rules.specs.Packets.{places, most_packets, Ascending, passes, put, keep, gathered, union, lacks, mix, without, pairs};
 ghost use Rattle.rows.specs.Chunks.{rows_of, Array, Packed, Held, Fits};
 ghost use Rattle.sets.specs.Lists.{Placed, Shifted, Inserted, Joined, Changed, Zeroed, Raised, Lowered, Apart, to_first, from_first};
-ghost use Rattle.sets.specs.Whole.{packets_of, Is};
 
+pub use packet_set::{PLACES, PacketSet, TooWide, Values};
 use rows::MOST;
 use std::cmp::Ordering;
-
-// The places of a row, and the words of sixteen rows.
-pub const PLACES: usize = 8;
-
-const WORDS: usize = MOST * PLACES;
-
-pub type Values = [u16; WORDS];
-
-// A set by value: packet i has the values 8 i to 8 i + 7, and all after the last packet are 0. Bit f of the mask: the packets have field f.
-#[derive(Clone, Copy)]
-pub struct PacketSet {
-    pub values: Values,
-    pub count: usize,
-    pub mask: u8,
-}
-
-// The mask of the fields 0 to k - 1.
-pub fn all_fields(k: usize) -> u8
-    requires { k ≤ places }
-    ensures { result ≡ all_fields k }
-{
-    if k < PLACES { (1u8 << k) - 1 } else { 255 }
-}
-
-// The set with no packet.
-pub fn empty(mask: u8) -> PacketSet
-    ensures { Is result mask [] }
-{
-    PacketSet {
-        values: [0u16; WORDS],
-        count: 0,
-        mask,
-    }
-}
-
-// The set of the first n packets of an array: only their rows are copied.
-pub fn copy_of(v: &[u16], n: usize, mask: u8) -> PacketSet
-    requires { Packed places v.now n }
-    ensures { Is result mask (packets_of n v.now) }
-{
-    let mut w = [0u16; WORDS];
-    rows::copy_rows(&mut w, v, n, PLACES);
-    PacketSet {
-        values: w,
-        count: n,
-        mask,
-    }
-}
-
-// The set of one packet, a row by itself, without the fields of w.
-pub fn alone(p: &[u16], w: u8, mask: u8) -> PacketSet
-    requires { places ≤ length p.now }
-    ensures { Is result (less mask w) (without w (take places p.now) ∷ []) }
-{
-    let bare = rows::bare_row(w as u16, p, PLACES);
-    let mut x = [0u16; WORDS];
-    rows::put_row(&mut x, 0, &bare, PLACES);
-    PacketSet {
-        values: x,
-        count: 1,
-        mask: (mask | w) ^ w,
-    }
-}
 
 // The packets that a test passes, moved to the front; gives how many they are.
 pub fn keep_in(v: &mut [u16], n: usize, f: usize, x: u16, r: usize) -> usize

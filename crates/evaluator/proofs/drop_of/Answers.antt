@@ -1,8 +1,6 @@
 -- `drop_of` meets its contract.
-use Rattle.rows.proofs.Clearing.{cleared_all}
-use Rattle.evaluator.proofs.WorkLaws.{did_drop}
+use Rattle.evaluator.proofs.WorkLaws.{few, gives_drop}
 use Rattle.evaluator.proofs.drop_of.Goals as goal
 
 pub returns : goal.returns
-returns c =
-    rw c.leaf.ensures (did_drop c.requires _ (cleared_all c.clear_rows.ensures c.requires.room c.requires.zeros))
+returns c = rw c.leaf.ensures (gives_drop (few c.args.set.now) _ c.clear.ensures.same)

@@ -1,8 +1,8 @@
--- `evaluate_accepted` meets its contract: one law for each number, and for the packets. Assumes nothing.
+-- `evaluate_accepted` meets its contract: one law for each number, and for the packets.
 use native.Mathlib.Omega.{arith}
-use Rattle.sets.proofs.Whole.{is_none}
-use Rattle.evaluator.proofs.Answering.{fields_some, passable, wrong_packet, wrong_buffer, unpopulated, too_wide}
-use Rattle.evaluator.proofs.Answering.{went_through, given_is}
+use Rattle.rules.proofs.HandingUp.{handed_up}
+use Rattle.evaluator.proofs.WorkLaws.{few}
+use Rattle.evaluator.proofs.Answering.{fields_some, passable, wrong_packet, wrong_buffer, stopped, given_is}
 use Rattle.evaluator.proofs.evaluate_accepted.Goals as goal
 
 pub returns-then-packet-k : goal.returns-then-packet-k
@@ -16,32 +16,18 @@ pub returns-then-res-k : goal.returns-then-res-k
 returns-then-res-k c =
     rw c.into-then-res-k.ensures (wrong_buffer _ _ _ _ c.requires c.if-packet-k.false c.if-res-k.true)
 
-pub all_fields-fields-requires : goal.all_fields-fields-requires
-all_fields-fields-requires c = (fields_some _ _ c.requires).1
+pub of-set-requires : goal.of-set-requires
+of-set-requires c = omega (arith, (fields_some _ _ c.requires).1, c.if-packet-k.false)
 
-pub pass-passage-requires : goal.pass-passage-requires
-pass-passage-requires c =
-    (passable _ _ _ c.requires c.if-packet-k.false, is_none c.empty-set.ensures)
+pub pass-requires : goal.pass-requires
+pass-requires c = record { passable = passable _ _ _ c.requires c.if-packet-k.false; alone = c.of-set.ensures.same }
 
-pub emit_rows-written-requires : goal.emit_rows-written-requires
-emit_rows-written-requires c =
-    let packed = (went_through _ _ _ _ c.pass-passage.ensures _ c.in-Through.is).held.packed in
-    (packed.room, packed.array)
+pub returns-in_err-weight : goal.returns-in_err-weight
+returns-in_err-weight c =
+    rw (handed_up c.from_residual.ensures.1)
+    (stopped _ _ _ _ c.requires c.if-packet-k.false c.if-res-k.false _ c.in_err-weight.ensures)
 
-pub returns-in-Open : goal.returns-in-Open
-returns-in-Open c =
-    rw c.into-in-Open.ensures
-    (unpopulated _ _ _ _ c.requires c.if-packet-k.false c.if-res-k.false _ _ c.pass-passage.ensures
-    c.in-Open.is)
-
-pub returns-in-Wide : goal.returns-in-Wide
-returns-in-Wide c =
-    rw c.into-in-Wide.ensures
-    (too_wide _ _ _ _ c.requires c.if-packet-k.false c.if-res-k.false _ _ c.pass-passage.ensures
-    c.in-Wide.is)
-
-pub returns-in-Through : goal.returns-in-Through
-returns-in-Through c =
-    let space = c.if-res-k.false in
-    let through = went_through _ _ _ _ c.pass-passage.ensures _ c.in-Through.is in
-    given_is _ _ _ _ c.requires c.if-packet-k.false space _ _ through _ _ c.emit_rows-written.ensures
+pub returns : goal.returns
+returns c =
+    given_is _ _ _ _ c.requires c.if-packet-k.false c.if-res-k.false _ _ (few c.pass.new.set) c.in_ok-weight.ensures _ _
+    c.emit_rows-fits.ensures

@@ -1,7 +1,10 @@
--- `look_table` meets its contract. Assumes nothing.
-use mathlib.Core.Path.{refl}
-use Rattle.evaluator.proofs.Opening.{sees_use}
+-- `look_table` meets its contract.
+use mathlib.Core.Path.{sym, ◌∙◌}
+use Rattle.evaluator.proofs.Opening.{sees_open, sees_use}
 use Rattle.evaluator.proofs.look_table.Goals as goal
 
+pub returns-then-length_of-eq0 : goal.returns-then-length_of-eq0
+returns-then-length_of-eq0 c = sees_open _ _ c.args.next (sym c.length_of.ensures.0 ∙ c.if-length_of-eq0.true)
+
 pub returns : goal.returns
-returns c = sees_use _ _ _ _ _ refl c.length_of-size.ensures.0
+returns c = sees_use _ _ _ (λ e. c.if-length_of-eq0.false (c.length_of.ensures.0 ∙ e))

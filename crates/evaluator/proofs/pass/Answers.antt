@@ -1,28 +1,20 @@
--- `pass` meets its contract: 9, then the main policy is worked through. Assumes nothing.
+-- `pass` meets its contract: 9, then the main policy is worked through.
 use mathlib.Core.Path.{sym, ◌∙◌}
-use Rattle.evaluator.proofs.Answering.{few_fields, main_fair, main_did, stops_open, stops_wide, goes_through}
+use Rattle.rules.proofs.HandingUp.{handed_up}
+use Rattle.evaluator.proofs.WorkLaws.{counted}
+use Rattle.evaluator.proofs.Answering.{main_fair, main_wide, main_through}
 use Rattle.evaluator.proofs.pass.Goals as goal
 
-pub returns-then-names_open : goal.returns-then-names_open
-returns-then-names_open c = stops_open _ _ _ (sym c.names_open.ensures ∙ c.if-names_open.true)
+pub evaluate_part-requires : goal.evaluate_part-requires
+evaluate_part-requires c =
+    main_fair _ _ c.body_start-start.ensures.0 _ c.requires.passable.accepted.1 (sym c.names_open.ensures ∙ c.if-names_open.false)
 
-pub start_in-requires : goal.start_in-requires
-start_in-requires c =
-    (few_fields _ _ c.requires.0, c.requires.1)
-
-pub evaluate_part-w-requires : goal.evaluate_part-w-requires
-evaluate_part-w-requires c =
-    let closed = sym c.names_open.ensures ∙ c.if-names_open.false in
-    (main_fair _ _ c.body_start-start.ensures.0 _ c.requires.0.accepted.1 closed, c.start_in.ensures.packed)
-
-pub returns-then-w : goal.returns-then-w
-returns-then-w c =
-    let closed = sym c.names_open.ensures ∙ c.if-names_open.false in
-    stops_wide _ _ closed
-    (main_did _ _ c.body_start-start.ensures.0 _ c.start_in.ensures c.evaluate_part-w.ensures) c.if-w.true
+pub returns-in_err-w : goal.returns-in_err-w
+returns-in_err-w c =
+    rw (handed_up c.from_residual.ensures.1)
+    (main_wide _ _ c.body_start-start.ensures.0 _ c.requires.alone (sym c.names_open.ensures ∙ c.if-names_open.false) c.in_err-w.ensures)
 
 pub returns : goal.returns
 returns c =
-    let closed = sym c.names_open.ensures ∙ c.if-names_open.false in
-    goes_through _ _ closed
-    (main_did _ _ c.body_start-start.ensures.0 _ c.start_in.ensures c.evaluate_part-w.ensures) c.if-w.false
+    main_through _ _ c.body_start-start.ensures.0 _ c.requires.alone (sym c.names_open.ensures ∙ c.if-names_open.false) c.in_ok-w.ensures
+    (counted c.evaluate_part.new.set)

@@ -1,6 +1,6 @@
--- `test_of` meets its contract. Assumes nothing.
-use Rattle.evaluator.proofs.WorkLaws.{did_test}
+-- `test_of` meets its contract.
+use Rattle.evaluator.proofs.WorkLaws.{few, gives_test}
 use Rattle.evaluator.proofs.test_of.Goals as goal
 
 pub returns : goal.returns
-returns c = rw c.leaf.ensures (did_test c.requires _ _ _ c.keep_in-some.ensures)
+returns c = rw c.leaf.ensures (gives_test (few c.args.set.now) _ (few c.keep.new.self) _ _ c.keep.ensures.same)

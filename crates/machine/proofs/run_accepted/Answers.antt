@@ -1,7 +1,7 @@
 -- `run_accepted` meets its contract: one law for each number, and the weighed run. Assumes nothing.
 use native.Mathlib.Omega.{arith}
-use Rattle.machine.proofs.Running.{fields_are, passable, refused_packet, refused_result, refused_area, refused_open}
-use Rattle.machine.proofs.Running.{refused_wide, weighed}
+use Rattle.rules.proofs.HandingUp.{handed_up}
+use Rattle.machine.proofs.Running.{fields_are, passable, refused_packet, refused_result, refused_area, refused_stopped, weighed}
 use Rattle.machine.proofs.run_accepted.Goals as goal
 
 pub returns-then-packet-k : goal.returns-then-packet-k
@@ -19,25 +19,18 @@ pub returns-then-work-lt-AREA_WORDS : goal.returns-then-work-lt-AREA_WORDS
 returns-then-work-lt-AREA_WORDS c =
     rw c.into-then-work-lt-AREA_WORDS.ensures (refused_area _ _ _ _ _ _ c.requires c.if-packet-k.false c.if-work-lt-AREA_WORDS.true)
 
-pub weigh-passage-requires : goal.weigh-passage-requires
-weigh-passage-requires c =
+pub weigh-requires : goal.weigh-requires
+weigh-requires c =
     let a = c.args in
     passable (a.book).now (a.packet).now (a.schedule).now (a.res).now (a.work).now _ c.requires c.if-packet-k.false
 
+pub returns-in_err-weight : goal.returns-in_err-weight
+returns-in_err-weight c =
+    rw (handed_up c.from_residual.ensures.1)
+    (refused_stopped _ _ _ _ _ _ c.requires c.if-packet-k.false c.if-res-k.false c.if-work-lt-AREA_WORDS.false _
+    c.in_err-weight.ensures.1)
+
 pub run_weighed-requires : goal.run_weighed-requires
 run_weighed-requires c =
-    let a = c.args in
-    weighed (a.book).now (a.packet).now (a.schedule).now (a.res).now (a.work).now _ c.requires c.if-packet-k.false
-    c.if-res-k.false c.if-work-lt-AREA_WORDS.false _ c.weigh-passage.ensures _ c.in-Through.is
-
-pub returns-in-Open : goal.returns-in-Open
-returns-in-Open c =
-    rw c.into-in-Open.ensures
-    (refused_open _ _ _ _ _ _ c.requires c.if-packet-k.false c.if-res-k.false c.if-work-lt-AREA_WORDS.false _ c.weigh-passage.ensures
-    c.in-Open.is)
-
-pub returns-in-Wide : goal.returns-in-Wide
-returns-in-Wide c =
-    rw c.into-in-Wide.ensures
-    (refused_wide _ _ _ _ _ _ c.requires c.if-packet-k.false c.if-res-k.false c.if-work-lt-AREA_WORDS.false _ c.weigh-passage.ensures
-    c.in-Wide.is)
+    weighed _ _ c.args.schedule.now _ _ _ c.requires c.if-packet-k.false c.if-res-k.false c.if-work-lt-AREA_WORDS.false _ _
+    c.in_ok-weight.ensures.1

@@ -1,0 +1,194 @@
+// A set of packets by value, and what is done to it: kept, set, put in, taken away, joined and paired. Its packets stand in a flat array.
+#![tactic(auto)]
+
+ghost use Rattle.std.specs.Prelude.{◌≡◌, ◌≤◌};
+ghost use Rattle.rules.specs.Masks.{all_fields};
+ghost use Rattle.rules.specs.Packets.{places};
+ghost use Rattle.rows.specs.Chunks.{Packed};
+ghost use Rattle.sets.specs.Packing.{Packed-prop};
+
+use rows::MOST;
+use rules::Reason;
+
+// The places of a row, and the words of sixteen rows.
+pub const PLACES: usize = 8;
+
+const WORDS: usize = MOST * PLACES;
+
+pub type Values = [u16; WORDS];
+
+// Packet i has the values 8 i to 8 i + 7, and all after the last packet are 0. Bit f of the mask: the packets have field f.
+#[derive(Clone, Copy)]
+pub struct PacketSet {
+    pub values: Values,
+    pub count: usize,
+    pub mask: u8,
+    pub ghost packed: { Packed places values count } by { Packed-prop places values count },
+}
+
+// The packets would be more than 16.
+#[derive(Clone, Copy, Debug, PartialEq, Eq)]
+pub struct TooWide;
+
+// The mask of the fields 0 to k - 1.
+fn all_fields(k: usize) -> u8
+    requires { k ≤ places }
+    ensures { result ≡ all_fields k }
+{
+    if k < PLACES { (1u8 << k) - 1 } else { u8::MAX }
+}
+
+impl PacketSet {
+    ghost use Rattle.std.specs.Prelude.{[], ◌∷◌, map, length, take, get_or, ◌<◌, OnOk, OnErr};
+    ghost use Rattle.rules.specs.Masks.{less};
+    ghost use Rattle.rules.specs.Packets.{most_packets, padded, passes, put, keep, gathered, lacks, union, pairs, without};
+    ghost use Rattle.sets.specs.Whole.{packets, Is};
+
+    // The set with no packet.
+    pub fn empty(mask: u8) -> PacketSet
+        ensures { Is result mask [] }
+    {
+        PacketSet {
+            values: [0u16; WORDS],
+            count: 0,
+            mask,
+        }
+    }
+
+    // The set of the packet that comes in.
+    pub fn of(packet: &[u16]) -> PacketSet
+        requires { length packet.now ≤ places }
+        ensures { Is result (all_fields (length packet.now)) (padded packet.now ∷ []) }
+    {
+        let mut values = [0u16; WORDS];
+        rows::put_row(&mut values, 0, &rows::padded(packet), PLACES);
+        PacketSet {
+            values,
+            count: 1,
+            mask: all_fields(packet.len()),
+        }
+    }
+
+    // The set of one packet, a row by itself, without the fields of w.
+    pub fn alone(p: &[u16], w: u8, mask: u8) -> PacketSet
+        requires { places ≤ length p.now }
+        ensures { Is result (less mask w) (without w (take places p.now) ∷ []) }
+    {
+        let bare = rows::bare_row(u16::from(w), p, PLACES);
+        let mut values = [0u16; WORDS];
+        rows::put_row(&mut values, 0, &bare, PLACES);
+        PacketSet {
+            values,
+            count: 1,
+            mask: (mask | w) ^ w,
+        }
+    }
+
+    // A copy. Only the rows of its packets are copied.
+    pub fn copied(&self) -> PacketSet
+        ensures { Is result self.now.mask (packets self.now) }
+    {
+        let mut values = [0u16; WORDS];
+        rows::copy_rows(&mut values, &self.values, self.count, PLACES);
+        PacketSet {
+            values,
+            count: self.count,
+            mask: self.mask,
+        }
+    }
+
+    // Packet i, a row by itself.
+    pub fn packet(&self, i: usize) -> [u16; MOST]
+        requires { i < self.now.count }
+        ensures { take places result ≡ get_or (packets self.now) i [] }
+    {
+        rows::row(&self.values, i, PLACES)
+    }
+
+    pub fn clear(&mut self)
+        ensures { Is self.new self.old.mask [] }
+    {
+        rows::clear_rows(&mut self.values, 0, self.count, PLACES);
+        self.count = 0;
+    }
+
+    // Only the packets that a test passes.
+    pub fn keep(&mut self, f: u8, x: u16)
+        ensures { Is self.new self.old.mask (keep (passes f x) (packets self.old)) }
+    {
+        self.count = crate::keep_in(&mut self.values, self.count, usize::from(f), x, PLACES);
+    }
+
+    // The packets with a field set; what becomes equal is one.
+    pub fn set(&mut self, f: u8, x: u16)
+        ensures { Is self.new self.old.mask (gathered (map (put f x) (packets self.old))) }
+    {
+        self.count = crate::set_in(&mut self.values, self.count, usize::from(f), x, PLACES);
+    }
+
+    // Only the packets that are not in the other.
+    pub fn remove(&mut self, other: &PacketSet)
+        ensures { Is self.new self.old.mask (keep (lacks (packets other.now)) (packets self.old)) }
+    {
+        self.count = crate::difference_in(
+            &mut self.values,
+            self.count,
+            &other.values,
+            other.count,
+            PLACES,
+        );
+    }
+
+    // The packets of both; none, where they would be more than 16.
+    pub fn join(&mut self, other: &PacketSet) -> Result<(), TooWide>
+        ensures joined { OnOk result (Is self.new self.old.mask (union (packets self.old) (packets other.now))) }
+        ensures wide { OnErr result (most_packets < length (union (packets self.old) (packets other.now))) }
+    {
+        let joined = crate::union_in(
+            &mut self.values,
+            self.count,
+            &other.values,
+            other.count,
+            PLACES,
+        );
+        let Some(count) = joined else {
+            self.count = 0;
+            return Err(TooWide);
+        };
+        self.count = count;
+        Ok(())
+    }
+
+    // Every pairing of a packet of left and one of right, put into a set that has none: the fields w from right's, all others from left's.
+    pub fn pair(&mut self, left: &PacketSet, right: &PacketSet, w: u8) -> Result<(), TooWide>
+        requires { packets self.old ≡ [] }
+        ensures paired { OnOk result (Is self.new self.old.mask (pairs w (packets left.now) (packets right.now))) }
+        ensures wide { OnErr result (most_packets < length (pairs w (packets left.now) (packets right.now))) }
+    {
+        let paired = crate::pairs_into(
+            &mut self.values,
+            &left.values,
+            left.count,
+            &right.values,
+            right.count,
+            u16::from(w),
+            PLACES,
+        );
+        let Some(count) = paired else {
+            self.count = 0;
+            return Err(TooWide);
+        };
+        self.count = count;
+        Ok(())
+    }
+}
+
+impl From<TooWide> for Reason {
+    ghost use Rattle.rules.specs.declared.Reason.TheVariants.{TooWide};
+
+    ghost from_gives = { λ _ e. e ≡ TooWide };
+
+    fn from(_wide: TooWide) -> Reason {
+        Reason::TooWide
+    }
+}
