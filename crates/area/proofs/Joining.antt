@@ -16,7 +16,8 @@ use Rattle.rows.proofs.Chunks.{length_chunks, length_rows_lem, drop_replicate}
 use Rattle.sets.proofs.Rows.{ascending_drop}
 use Rattle.sets.proofs.Merging.{union_less, union_same, union_more}
 use Rattle.area.specs.declared.joins.Next.{Next}
-use Rattle.area.specs.Words.{positions, row_words, slot_words, slot_from, area_words, slot_at, rows_at, packet_at, OutsideSlot, Rowed}
+use Rattle.std.specs.declared.ops.Range.{Range}
+use Rattle.area.specs.Words.{positions, row_words, slot_words, slot_from, slot_range, slot_at, rows_at, packet_at, OutsideSlot, Rowed}
 use Rattle.area.specs.Words.{Filled}
 use Rattle.area.specs.Words.{HasSet, Three, Tidied}
 use Rattle.area.specs.Joins.{Leads}
@@ -30,16 +31,16 @@ unfolding chunks
 zero_rows = refl
 
 -- the first n rows of slot i in an array of zeros
-pub copied_out : {w u : List ℕ} {i n : ℕ} → HasSet w i n → Copied row_words u (replicate slot_words 0) (lent w i) n
+pub copied_out : {w u : List ℕ} {i n : ℕ} {at : Range ℕ} → at ≡ slot_range i → HasSet w i n → Copied row_words u (replicate slot_words 0) (lent w at) n
     → Held row_words u n (rows_at w i n)
-copied_out {w} {u} {i} {n} h c =
+copied_out {w} {u} {i} {n} s h c =
     let R : Packets = rows_of row_words (slot_at w i) in
     let Z : Packets = replicate (16 - n) (blank row_words) in
     let e : 16 ≡ n + (16 - n) = omega (arith, h.slim) in
     let z : drop n (rows_of row_words (replicate slot_words 0)) ≡ Z =
     ap (drop n) zero_rows ∙ ap (λ (k : ℕ). drop n (replicate k (blank row_words))) e ∙ drop_replicate n (16 - n) (blank row_words) in
     let lt : length (take n R) ≡ n = length-take-le n R (omega (arith, length_rows_lem row_words (slot_at w i), h.slim)) in
-    let rows : rows_of row_words u ≡ take n R ++ Z = c.rows ∙ rw (lent_slot w i, z) refl in
+    let rows : rows_of row_words u ≡ take n R ++ Z = c.rows ∙ rw (lent_slot i s w, z) refl in
     let same : take n (rows_of row_words u) ≡ rows_at w i n =
     ap (take n) rows ∙ take_at (take n R) Z n lt ∙ front_rows (slot_at w i) n h.slim in
     record {
@@ -52,9 +53,9 @@ copied_out {w} {u} {i} {n} h c =
       same = same;
     }
 
-pub no_packets : (w : List ℕ) (i : ℕ) → i < positions → area_words ≤ length w → HasSet w i 0
+pub no_packets : (w : List ℕ) (i : ℕ) → i < positions → HasSet w i 0
 unfolding chunks
-no_packets w i h room = record { there = h; slim = omega arith; rises = tt; area = room }
+no_packets w i h = record { there = h; slim = omega arith; rises = tt }
 
 -- ---- the next packet of a union
 
@@ -147,7 +148,7 @@ pub record Merging (w : List ℕ) (i l r a b : ℕ) (v : List ℕ) (x y k : ℕ)
 pub kept_set : {w v : List ℕ} {i l a : ℕ} → (l ≡ i → ⊥) → OutsideSlot w v i → HasSet w l a → HasSet v l a
 kept_set {i = i} {l} d o h =
     let e = part_out o (slot_from l) slot_words (slots_apart i l d) in
-    record { there = h.there; slim = h.slim; rises = rw e h.rises; area = omega (arith, h.area, o.long) }
+    record { there = h.there; slim = h.slim; rises = rw e h.rises }
 
 pub merging_start : (w : List ℕ) (i l r a b : ℕ) → Merging w i l r a b w 0 0 0
 unfolding chunks
@@ -210,16 +211,16 @@ pub paired_one : {w v : List ℕ} {i : ℕ} (l r m : ℕ) → Rowed w v i 0 (mix
 unfolding pairs_into union insert chunks
 paired_one l r m o = record { slotted = record { here = o.here; out = o.out }; count = refl; slim = omega arith }
 
-pub lent_empty : {w v : List ℕ} {i : ℕ} → Tidied w v i 0 → Held row_words (lent v i) 0 []
+pub lent_empty : {w v : List ℕ} {i : ℕ} {at : Range ℕ} → at ≡ slot_range i → Tidied w v i 0 → Held row_words (lent v at) 0 []
 unfolding chunks
-lent_empty {v = v} {i} t = rw (lent_slot v i) t.held
+lent_empty {v = v} {i} s t = rw (lent_slot i s v) t.held
 
-pub paired : {w v u ys p q : List ℕ} {i a b k : ℕ} (l r m : ℕ) → Held row_words p a (rows_at w l a) → Held row_words q b (rows_at w r b)
+pub paired : {w v u ys p q : List ℕ} {i a b k : ℕ} {at : Range ℕ} (l r m : ℕ) → at ≡ slot_range i → Held row_words p a (rows_at w l a) → Held row_words q b (rows_at w r b)
     → Tidied w v i 0
     → Back v u i ys
     → Fits row_words ys (Some k) (pairs m (take a (rows_of row_words p)) (take b (rows_of row_words q)))
     → Filled w u i k (pairs m (rows_at w l a) (rows_at w r b))
-paired l r m hp hq t b f =
+paired l r m s hp hq t b f =
     filled (record { here = b.here; out = outside_then t.out b.out }) (rw (hp.same, hq.same) at f)
 
 -- where they are 16 or fewer, there is a count

@@ -1,72 +1,72 @@
 -- A slot lent as an array of rows and given back: what it holds then, and that all other words stay.
 use Prim.Native.Nat.{ℕ, ◌+◌, ◌-◌, ◌*◌, ◌≤◌, ◌<◌}
 use native.Mathlib.Omega.{arith}
-use native.Mathlib.Numerals.{add-one}
 use mathlib.Core.Path.{◌≡◌, refl, sym, ap, ◌∙◌}
 use mathlib.Core.Bool.{true, false}
 use mathlib.Core.List.{List, [], ◌∷◌, ◌++◌, map, append_assoc}
 use lib.ListN.{length, take, drop, get_or, replicate, length-take, length-drop, drop_of_length-le}
-use lib.Seq.{paste, drop-drop, take_at, drop_at, take_all, take-suc, get_or-drop, length-take-le, set_out}
+use lib.Seq.{paste, drop-drop, take_at, drop_at, take_all, get_or-drop, length-take-le, length-paste, set_out}
 use Rattle.rules.specs.Packets.{Packet, Packets, passes, put, insert, union, keep, gathered, most_packets}
 use Rattle.rows.specs.Chunks.{chunks, rows_of, blank, Packed, Held, Stored, Cleared}
-use Rattle.rows.proofs.Chunks.{length_chunks, length_rows_lem, get_or_chunks, chunks_add}
+use Rattle.std.proofs.lemmas.List.{take-append-drop}
+use Rattle.rows.proofs.Chunks.{length_chunks, length_rows_lem, get_or_chunks, chunks_add, chunks_append, chunks_front}
 use Rattle.rows.proofs.Clearing.{trimmed}
 use Rattle.rows.proofs.Holding.{held_count}
 use Rattle.sets.proofs.Rows.{set_take}
-use Rattle.area.specs.Words.{positions, row_words, slot_words, slot_from, area_words, part, slot_at, rows_at, packet_at, OutsideSlot}
+use Rattle.std.specs.declared.ops.Range.{Range}
+use Rattle.area.specs.Words.{positions, row_words, slot_words, slot_from, slot_range, area_words, part, slot_at, rows_at, packet_at, OutsideSlot}
 use Rattle.area.specs.Words.{Slotted}
 use Rattle.area.specs.Words.{Rowed, Filled, HasSet, Tidied}
-use Rattle.area.proofs.Words.{outside_same, outside_then, outside_paste, part_out, slots_apart}
+use Rattle.area.proofs.Words.{outside_same, outside_then, outside_wider, outside_paste}
 
 -- ---- the words lent, and given back as ys
 
-abbrev size : ℕ → ℕ
-size i = slot_from i + slot_words - slot_from i
+abbrev pub lent : List ℕ → Range ℕ → List ℕ
+lent w p = take (p.end - p.start) (drop p.start w)
 
-abbrev pub lent : List ℕ → ℕ → List ℕ
-lent w i = take (size i) (drop (slot_from i) w)
+abbrev given : List ℕ → Range ℕ → List ℕ → List ℕ
+given w p ys = take p.start w ++ (ys ++ drop (p.end - p.start) (drop p.start w))
 
-abbrev given : List ℕ → ℕ → List ℕ → List ℕ
-given w i ys = take (slot_from i) w ++ (ys ++ drop (size i) (drop (slot_from i) w))
-
-pub lent_slot : (w : List ℕ) (i : ℕ) → lent w i ≡ slot_at w i
+pub slot_size : (w : List ℕ) (i : ℕ) → i < positions → length w ≡ area_words → length (slot_at w i) ≡ slot_words
 unfolding part
-lent_slot w i = let e : size i ≡ slot_words = omega arith in rw e
-
-pub lent_packet : (w : List ℕ) (i k : ℕ) → get_or (rows_of row_words (lent w i)) k [] ≡ packet_at w i k
-lent_packet w i k = ap (λ (z : List ℕ). get_or (rows_of row_words z) k []) (lent_slot w i)
+slot_size w i h room = length-take-le slot_words (drop (slot_from i) w) (omega (arith, length-drop (slot_from i) w))
 
 pub first_row : (v : List ℕ) → get_or (rows_of row_words v) 0 [] ≡ take row_words v
 unfolding chunks
 first_row v = refl
 
-pub slot_size : (w : List ℕ) (i : ℕ) → i < positions → area_words ≤ length w → length (slot_at w i) ≡ slot_words
-unfolding part
-slot_size w i h room = length-take-le slot_words (drop (slot_from i) w) (omega (arith, length-drop (slot_from i) w))
-
 pub record Back (w v : List ℕ) (i : ℕ) (ys : List ℕ) : Type 0 where
   pub here : slot_at v i ≡ ys
   pub out : OutsideSlot w v i
 
-module _ (w : List ℕ) (i : ℕ) (ys : List ℕ) (h : i < positions) (room : area_words ≤ length w) (l : length ys ≡ length (lent w i)) where
-  same_size : length ys ≡ slot_words
-  same_size = l ∙ ap length (lent_slot w i) ∙ slot_size w i h room
+size : (i : ℕ) → slot_from i + slot_words - slot_from i ≡ slot_words
+size i = omega arith
 
-  back_paste : given w i ys ≡ paste w (slot_from i) ys slot_words
-  back_paste =
-      let e : size i ≡ slot_words = omega arith in
-      rw (e, drop-drop slot_words (slot_from i) w, take_all slot_words ys (omega (arith, same_size)))
-      (sym (append_assoc (take (slot_from i) w) ys (drop (slot_from i + slot_words) w)))
-
-  pub back : Back w (given w i ys) i ys
+module _ (i : ℕ) {p : Range ℕ} (e : p ≡ slot_range i) where
+  pub lent_slot : (w : List ℕ) → lent w p ≡ slot_at w i
   unfolding part
-  back =
-      let f : length (take (slot_from i) w) ≡ slot_from i = length-take-le (slot_from i) w (omega arith) in
-      let rest : List ℕ = drop (size i) (drop (slot_from i) w) in
-      record {
-        here = rw (drop_at (take (slot_from i) w) (ys ++ rest) (slot_from i) f) (take_at ys rest slot_words same_size);
-        out = rw back_paste (outside_paste w (slot_from i) ys slot_words (omega arith) (omega (arith, same_size)));
-      }
+  lent_slot w = rw (e, size i) refl
+
+  pub lent_packet : (w : List ℕ) (k : ℕ) → get_or (rows_of row_words (lent w p)) k [] ≡ packet_at w i k
+  lent_packet w k = ap (λ (z : List ℕ). get_or (rows_of row_words z) k []) (lent_slot w)
+
+  module _ (w ys : List ℕ) (h : i < positions) (room : length w ≡ area_words) (l : length ys ≡ length (lent w p)) where
+    same_size : length ys ≡ slot_words
+    same_size = l ∙ ap length (lent_slot w) ∙ slot_size w i h room
+
+    back_paste : given w p ys ≡ paste w (slot_from i) ys slot_words
+    back_paste = rw (e, size i, drop-drop slot_words (slot_from i) w, take_all slot_words ys (omega (arith, same_size)))
+        (sym (append_assoc (take (slot_from i) w) ys (drop (slot_from i + slot_words) w)))
+
+    pub back : Back w (given w p ys) i ys
+    unfolding part
+    back =
+        let f : length (take (slot_from i) w) ≡ slot_from i = length-take-le (slot_from i) w (omega arith) in
+        let rest : List ℕ = drop slot_words (drop (slot_from i) w) in
+        record {
+          here = rw (e, size i, drop_at (take (slot_from i) w) (ys ++ rest) (slot_from i) f) (take_at ys rest slot_words same_size);
+          out = rw back_paste (outside_paste w (slot_from i) ys slot_words (omega arith) (omega (arith, same_size)));
+        }
 
 -- ---- the rows of a slot
 
@@ -88,37 +88,34 @@ module _ {w v ys : List ℕ} {i : ℕ} (b : Back w v i ys) where
       }
 
   -- row k of it is another
-  pub rowed : {k : ℕ} {p q : Packet} → k < most_packets → q ≡ p → Stored row_words ys (lent w i) k q → Rowed w v i k p
-  rowed {k} {p} {q} l e g =
-      let R : Packets = rows_of row_words (lent w i) in
+  pub rowed : {k : ℕ} {p q : Packet} {at : Range ℕ} → at ≡ slot_range i → k < most_packets → q ≡ p → Stored row_words ys (lent w at) k q → Rowed w v i k p
+  rowed {k} {p} {q} {at} s l e g =
+      let R : Packets = rows_of row_words (lent w at) in
       record {
         here = rw b.here (sym (front_rows ys (k + 1) (omega arith)) ∙ ap (take (k + 1)) g.rows
-            ∙ set_take R k q (omega (arith, length_rows_lem row_words (lent w i)))
-            ∙ rw (e, front_rows (lent w i) k (omega arith), lent_slot w i) refl);
+            ∙ set_take R k q (omega (arith, length_rows_lem row_words (lent w at)))
+            ∙ rw (e, front_rows (lent w at) k (omega arith), lent_slot i s w) refl);
         out = b.out;
       }
 
   -- its rows from n on are zeros
-  pub tidied : {n : ℕ} → HasSet w i n → Cleared row_words ys (lent w i) n most_packets → Tidied w v i n
-  tidied {n} h c =
-      let R : Packets = rows_of row_words (lent w i) in
+  pub tidied : {n : ℕ} {at : Range ℕ} → at ≡ slot_range i → HasSet w i n → Cleared row_words ys (lent w at) n most_packets → Tidied w v i n
+  tidied {n} {at} s h c =
+      let R : Packets = rows_of row_words (lent w at) in
       let z : drop 16 R ≡ replicate (16 - 16) (blank row_words) =
-      drop_of_length-le R {i = 16} (omega (arith, length_rows_lem row_words (lent w i))) in
-      let f : take n R ≡ rows_at w i n = front_rows (lent w i) n h.slim ∙ ap (chunks row_words n) (lent_slot w i) in
+      drop_of_length-le R {i = 16} (omega (arith, length_rows_lem row_words (lent w at))) in
+      let f : take n R ≡ rows_at w i n = front_rows (lent w at) n h.slim ∙ ap (chunks row_words n) (lent_slot i s w) in
       record { held = rw b.here (trimmed c h.slim (omega arith) z f h.rises); out = b.out }
 
-pub lent_packed : {w v : List ℕ} {i n : ℕ} → Tidied w v i n → Packed row_words (lent v i) n
-lent_packed {v = v} {i} t = rw (lent_slot v i) t.held.packed
-
-pub tidied_long : {w v : List ℕ} {i n : ℕ} → area_words ≤ length w → Tidied w v i n → area_words ≤ length v
-tidied_long h t = omega (arith, t.out.long)
+pub lent_packed : {w v : List ℕ} {i n : ℕ} {at : Range ℕ} → at ≡ slot_range i → Tidied w v i n → Packed row_words (lent v at) n
+lent_packed {v = v} {i} s t = rw (lent_slot i s v) t.held.packed
 
 -- what is made of a set that is tidied first
-pub tidied_then : {w v u ys : List ℕ} {i n k : ℕ} (F : Packets → Packets) → Tidied w v i n → Back v u i ys
-    → Held row_words ys k (F (take n (rows_of row_words (lent v i)))) → Filled w u i k (F (rows_at w i n))
-tidied_then {w} {v} {i = i} {n} F t b g =
-    let e : take n (rows_of row_words (lent v i)) ≡ rows_at w i n =
-    ap (λ (z : List ℕ). take n (rows_of row_words z)) (lent_slot v i) ∙ t.held.same in
+pub tidied_then : {w v u ys : List ℕ} {i n k : ℕ} {at : Range ℕ} (F : Packets → Packets) → at ≡ slot_range i → Tidied w v i n → Back v u i ys
+    → Held row_words ys k (F (take n (rows_of row_words (lent v at)))) → Filled w u i k (F (rows_at w i n))
+tidied_then {w} {v} {i = i} {n} {at = at} F s t b g =
+    let e : take n (rows_of row_words (lent v at)) ≡ rows_at w i n =
+    ap (λ (z : List ℕ). take n (rows_of row_words z)) (lent_slot i s v) ∙ t.held.same in
     filled (record { here = b.here; out = outside_then t.out b.out }) (rw e at g)
 
 -- ---- one packet
@@ -151,13 +148,7 @@ set_none w i f x h =
     let l : length (packet_at w i 0) ≤ f = omega (arith, length-take row_words (slot_at w i)) in
     record { here = rw (set_out (packet_at w i 0) f x l) refl; out = outside_same w _ _ }
 
--- ---- packets copied one by one
-
--- the first k packets of slot j are those of slot i from m on
-pub record Copying (w : List ℕ) (i m j n : ℕ) (v : List ℕ) (k : ℕ) : Type 0 where
-  pub upto : m + k ≤ n
-  pub here : rows_at v j k ≡ take k (drop m (rows_at w i n))
-  pub out : OutsideSlot w v j
+-- ---- packets copied
 
 pub packet_at_lem : (w : List ℕ) (i m n k : ℕ) → n ≤ most_packets → m + k < n → get_or (drop m (rows_at w i n)) k [] ≡ packet_at w i (m + k)
 packet_at_lem w i m n k h l =
@@ -167,27 +158,48 @@ packet_at_lem w i m n k h l =
 length_rest : (w : List ℕ) (i m n : ℕ) → length (drop m (rows_at w i n)) ≡ n - m
 length_rest w i m n = length-drop m (rows_at w i n) ∙ rw (length_chunks row_words n (slot_at w i)) refl
 
-pub copying_start : (w : List ℕ) (i m j n : ℕ) → m ≤ n → Copying w i m j n w 0
-unfolding chunks
-copying_start w i m j n h = record { upto = omega arith; here = refl; out = outside_same w _ _ }
+-- the first rows of a slot are those of the words from its start on
+rows_words : (w : List ℕ) (i k : ℕ) → k ≤ most_packets → i < positions → length w ≡ area_words
+    → rows_at w i k ≡ chunks row_words k (drop (slot_from i) w)
+unfolding part
+rows_words w i k h g room =
+    let D : List ℕ = drop (slot_from i) w in
+    sym (chunks_append row_words k (take slot_words D) (drop slot_words D) (omega (arith, slot_size w i g room)))
+    ∙ ap (chunks row_words k) (take-append-drop slot_words D)
 
-pub copying_next : {w v u : List ℕ} {i m j n k : ℕ} → (i ≡ j → ⊥) → n ≤ most_packets → m + k < n → Copying w i m j n v k
-    → Rowed v u j k (packet_at v i (m + k)) → Copying w i m j n u (k + 1)
-copying_next {w} {v} {u} {i} {m} {j} {n} {k} d f l c r =
-    let e : slot_at v i ≡ slot_at w i = part_out c.out (slot_from i) slot_words (slots_apart j i d) in
+-- those from m on are those of the words from there on
+rows_from : (w : List ℕ) (i m n : ℕ) → m ≤ n → n ≤ most_packets → i < positions → length w ≡ area_words
+    → drop m (rows_at w i n) ≡ chunks row_words (n - m) (drop (slot_from i + m * row_words) w)
+rows_from w i m n l h g room =
+    let D : List ℕ = drop (slot_from i) w in
+    let k : ℕ = n - m in
+    let e : n ≡ m + k = omega arith in
+    ap (drop m) (rows_words w i n h g room ∙ ap (λ (z : ℕ). chunks row_words z D) e ∙ chunks_add row_words m k D)
+    ∙ drop_at (chunks row_words m D) (chunks row_words k (drop (m * row_words) D)) m (length_chunks row_words m D)
+    ∙ ap (chunks row_words k) (drop-drop (m * row_words) (slot_from i) w)
+
+pub copied : {w v : List ℕ} {i m j n : ℕ} → m ≤ n → n ≤ most_packets → i < positions → j < positions → length w ≡ area_words
+    → v ≡ paste w (slot_from j) (drop (slot_from i + m * row_words) w) (slot_from i + n * row_words - (slot_from i + m * row_words))
+    → Slotted w v j (drop m (rows_at w i n))
+copied {w} {v} {i} {m} {j} {n} l h g d room e =
+    let s : List ℕ = drop (slot_from i + m * row_words) w in
+    let k : ℕ = n - m in
+    let c : slot_from i + n * row_words - (slot_from i + m * row_words) ≡ k * row_words = omega arith in
+    let ls : length s ≡ length w - (slot_from i + m * row_words) = length-drop (slot_from i + m * row_words) w in
+    let e₁ : v ≡ paste w (slot_from j) s (k * row_words) = rw c at e in
+    let rest : List ℕ = drop (slot_from j + k * row_words) w in
+    let lt : length (take (slot_from j) w) ≡ slot_from j = length-take-le (slot_from j) w (omega arith) in
+    let lk : length (take (k * row_words) s) ≡ k * row_words = length-take-le (k * row_words) s (omega arith) in
+    let lv : length v ≡ area_words = ap length e₁ ∙ length-paste w (slot_from j) s (k * row_words) (omega arith) (omega arith) ∙ room in
+    let dv : drop (slot_from j) v ≡ take (k * row_words) s ++ rest =
+    ap (drop (slot_from j)) (e₁ ∙ append_assoc (take (slot_from j) w) (take (k * row_words) s) rest)
+    ∙ drop_at (take (slot_from j) w) (take (k * row_words) s ++ rest) (slot_from j) lt in
     record {
-      upto = omega arith;
-      here = r.here ∙ rw (c.here, e, ← (packet_at_lem w i m n k f l), add-one k)
-          (sym (take-suc (drop m (rows_at w i n)) k [] (omega (arith, length_rest w i m n))));
-      out = outside_then c.out r.out;
+      here = rw (length_rest w i m n)
+          (rows_words v j k (omega arith) d lv ∙ ap (chunks row_words k) dv
+          ∙ chunks_append row_words k (take (k * row_words) s) rest (omega arith)
+          ∙ sym (chunks_front row_words k s (omega arith))
+          ∙ sym (rows_from w i m n l h g room));
+      out = rw e₁ (outside_wider (slot_from j) (slot_from j + slot_words) (omega arith) (omega arith)
+          (outside_paste w (slot_from j) s (k * row_words) (omega arith) (omega arith)));
     }
-
-pub copying_end : {w v : List ℕ} {i m j n k : ℕ} → n ≤ m + k → Copying w i m j n v k → Slotted w v j (drop m (rows_at w i n))
-copying_end {w} {v} {i} {m} {j} {n} {k} h c =
-    let e : length (drop m (rows_at w i n)) ≡ k = length_rest w i m n ∙ omega (arith, c.upto) in
-    record { here = rw e (c.here ∙ take_all k (drop m (rows_at w i n)) (omega arith)); out = c.out }
-
--- ---- nothing to copy
-
-pub slotted_same : (w : List ℕ) (i n : ℕ) → Slotted w w i (rows_at w i n)
-slotted_same w i n = record { here = rw (length_chunks row_words n (slot_at w i)) refl; out = outside_same w _ _ }

@@ -5,13 +5,11 @@ use native.Mathlib.Numerals.{add-one, towards_suc}
 use mathlib.Core.Path.{◌≡◌, sym, ap, ◌∙◌}
 use mathlib.Core.List.{List, [], ◌∷◌, ◌++◌, append_assoc}
 use lib.ListN.{length, take, drop, get_or, set, length-drop, length-append}
-use lib.Seq.{paste, take-paste, take-take, drop_at, take-add, length-take-le, drop-set-add, take-set-lt, set_split, set_at, take-suc}
+use lib.Seq.{paste, take-paste, take-take, drop_at, length-take-le, drop-set-add, take-set-lt, set_split, set_at, take-suc}
+use Rattle.std.proofs.lemmas.List.{drop-take}
 use Rattle.area.proofs.Moves.{paste_shift, moved}
 use Rattle.area.specs.Words.{positions, ready_from, free_from, area_words, part, Listed}
 use Rattle.area.proofs.Words.{outside_set, outside_paste, outside_then, outside_wider}
-
-drop_take : (a k : ℕ) (l : List ℕ) → a + k ≤ length l → drop a (take (a + k) l) ≡ take k (drop a l)
-drop_take a k l h = ap (drop a) (take-add a k l) ∙ drop_at (take a l) (take k (drop a l)) a (length-take-le a l (omega arith))
 
 -- the list after a move of its words
 drop_moved : (w : List ℕ) (t : ℕ) (s : List ℕ) (k : ℕ) → ready_from ≤ length w
@@ -20,12 +18,12 @@ drop_moved w t s k h =
     ap (drop ready_from) (paste_shift w ready_from t s k) ∙ drop_at (take ready_from w) (paste (drop ready_from w) t s k) ready_from
     (length-take-le ready_from w h)
 
-module _ (w : List ℕ) (r j : ℕ) (h : j < r) (l : r ≤ positions) (room : area_words ≤ length w) where
+module _ (w : List ℕ) (r j : ℕ) (h : j < r) (l : r ≤ positions) (room : length w ≡ area_words) where
   abbrev W : List ℕ
   W = drop ready_from w
 
   abbrev k : ℕ
-  k = r - 1 - j
+  k = ready_from + r - (ready_from + j + 1)
 
   length_W : length W ≡ length w - ready_from
   length_W = length-drop ready_from w
@@ -34,7 +32,7 @@ module _ (w : List ℕ) (r j : ℕ) (h : j < r) (l : r ≤ positions) (room : ar
   front = take-take j r W (omega arith)
 
   back : drop (j + 1) (take r W) ≡ take k (drop (j + 1) W)
-  back = let e : j + 1 + k ≡ r = omega arith in rw e at (drop_take (j + 1) k W (omega (arith, length_W)))
+  back = let e : j + 1 + k ≡ r = omega arith in rw e at (drop-take (j + 1) k W)
 
   rest_is : drop (ready_from + j + 1) w ≡ drop (j + 1) W
   rest_is = let e : ready_from + j + 1 ≡ ready_from + (j + 1) = omega arith in rw e (sym (lib.Seq.drop-drop (j + 1) ready_from w))

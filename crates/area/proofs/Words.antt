@@ -11,7 +11,9 @@ use lib.Seq.{paste, sets, length-sets, get_or-set_same, get_or-set_other, get_or
 use lib.Seq.{drop-set-add}
 use Rattle.area.proofs.Moves.{get_or_paste_before, get_or_paste_after}
 use Rattle.area.specs.declared.headers.Header.{Header}
-use Rattle.area.specs.Words.{positions, head_words, slot_words, free_from, slot_from, area_words, header_at, part, free_list, Outside}
+use Rattle.area.specs.declared.headers.Phase.{Phase}
+use Rattle.area.specs.declared.headers.Phase.TheVariants.{Placed, Finished, Waiting, Negated, Entered, Split, Paired}
+use Rattle.area.specs.Words.{positions, word_of, phase_at, head_words, slot_words, free_from, slot_from, area_words, header_at, part, free_list, Outside}
 use Rattle.area.specs.Words.{Headed}
 use Rattle.area.specs.Words.{Given}
 
@@ -71,14 +73,24 @@ outside_sets w i vs = record { long = length-sets w i vs; before = sets_before v
 
 -- the six words of a header
 abbrev pub six : List ℕ → ℕ → Header → List ℕ
-six w b h = set (set (set (set (set (set w b h.place) (b + 1) h.phase) (b + 2) h.count) (b + 3) h.up) (b + 4) h.left) (b + 5)
+six w b h = set (set (set (set (set (set w b h.place) (b + 1) (word_of h.phase)) (b + 2) h.count) (b + 3) h.up) (b + 4) h.left) (b + 5)
     h.right
 
 abbrev words : Header → List ℕ
-words h = h.place ∷ h.phase ∷ h.count ∷ h.up ∷ h.left ∷ h.right ∷ []
+words h = h.place ∷ word_of h.phase ∷ h.count ∷ h.up ∷ h.left ∷ h.right ∷ []
 
 six_sets : (w : List ℕ) (b : ℕ) (h : Header) → six w b h ≡ sets w b (words h)
 six_sets w b h = simp towards_suc
+
+pub phase_of_word : (p : Phase) → phase_at (word_of p) ≡ p
+unfolding phase_at
+phase_of_word Placed = refl
+phase_of_word Finished = refl
+phase_of_word Waiting = refl
+phase_of_word Negated = refl
+phase_of_word Entered = refl
+phase_of_word Split = refl
+phase_of_word Paired = refl
 
 pub headed : (w : List ℕ) (i : ℕ) (h : Header) → i * head_words + head_words ≤ length w → Headed w (six w (i * head_words) h) i h
 unfolding header_at
@@ -95,6 +107,7 @@ headed w i h l =
         at 4 (omega arith),
         at 5
             (omega arith),
+        phase_of_word h.phase,
       );
       out = outside_sets w (i * head_words) (words h);
     })
@@ -135,12 +148,6 @@ module _ {w v : List ℕ} {a b : ℕ} (o : Outside w v a b) where
       ∙ word_out (p + i) (⊎_elim (λ k. inl (omega arith)) (λ k. inr (omega arith)) c)
       ∙ sym (get_or-take n (drop p w) i 0 g ∙ get_or-drop p w i 0))
 
-  pub past_out : (p : ℕ) → b ≤ p → drop p v ≡ drop p w
-  past_out p h =
-      let l = o.long in
-      ext_get_or 0 (drop p v) (drop p w) (simp length-drop (rw l refl))
-      (λ i g. get_or-drop p v i 0 ∙ o.after (p + i) (omega arith) ∙ sym (get_or-drop p w i 0))
-
 -- ---- two numbers apart
 
 pub slots_apart : (i k : ℕ) → (k ≡ i → ⊥) → (slot_from k + slot_words ≤ slot_from i) ⊎ (slot_from i + slot_words ≤ slot_from k)
@@ -151,7 +158,7 @@ heads_apart i k n = elim (dec_lt k i) [ yes h ↦ inl (omega arith) | no h ↦ i
 
 -- ---- the list of free numbers
 
-pub free_top : (w : List ℕ) (n : ℕ) → 0 < n → n ≤ positions → area_words ≤ length w
+pub free_top : (w : List ℕ) (n : ℕ) → 0 < n → n ≤ positions → length w ≡ area_words
     → free_list w n ≡ free_list w (n - 1) ++ (get_or w (free_from + n - 1) 0 ∷ [])
 unfolding part
 free_top w n h l room =
@@ -161,7 +168,7 @@ free_top w n h l room =
     ap (λ (m : ℕ). take m (drop free_from w)) z ∙ take-suc (drop free_from w) (n - 1) 0 (omega arith)
     ∙ ap (λ (x : ℕ). take (n - 1) (drop free_from w) ++ (x ∷ [])) (get_or-drop free_from w (n - 1) 0 ∙ ap (λ (m : ℕ). get_or w m 0) (sym k))
 
-pub free_push : (w : List ℕ) (n x : ℕ) → n < positions → area_words ≤ length w
+pub free_push : (w : List ℕ) (n x : ℕ) → n < positions → length w ≡ area_words
     → free_list (set w (free_from + n) x) (n + 1) ≡ free_list w n ++ (x ∷ [])
 unfolding part
 free_push w n x h room =
@@ -170,5 +177,5 @@ free_push w n x h room =
 
 -- ---- one law for each function
 
-pub gave : (w : List ℕ) (n p : ℕ) → n < positions → area_words ≤ length w → Given w (set w (free_from + n) p) n p
+pub gave : (w : List ℕ) (n p : ℕ) → n < positions → length w ≡ area_words → Given w (set w (free_from + n) p) n p
 gave w n p h room = record { here = free_push w n p h room; out = outside_set w (free_from + n) p }

@@ -1,9 +1,12 @@
 -- The words of the area: a header for each position, the numbers of the ready positions, those of the free ones, and a slot of sixteen
 -- packets for each position. A position's number is its slot's, and never changes.
-use Rattle.std.specs.Prelude.{ℕ, ◌+◌, ◌-◌, ◌*◌, ◌≤◌, ◌<◌, ◌≡◌, List, [], ◌∷◌, ◌++◌, length, take, drop, get_or}
+use Rattle.std.specs.Prelude.{ℕ, zero, suc, Bool, true, false, ◌+◌, ◌-◌, ◌*◌, ◌≤◌, ◌<◌, ◌≡◌, List, [], ◌∷◌, ◌++◌, length, take, drop, get_or}
+use Rattle.std.specs.declared.ops.Range.{Range}
 use Rattle.rules.specs.Packets.{Packet, Packets, Ascending, places, most_packets}
 use Rattle.rows.specs.Chunks.{chunks, rows_of, Held}
 use Rattle.area.specs.declared.headers.Header.{Header}
+use Rattle.area.specs.declared.headers.Phase.{Phase}
+use Rattle.area.specs.declared.headers.Phase.TheVariants.{Placed, Finished, Waiting, Negated, Entered, Split, Paired}
 
 -- ---- the layout: how many positions there are and how many words a packet has; the rest follows
 
@@ -33,43 +36,53 @@ slots_from = free_from + positions
 abbrev pub slot_from : ℕ → ℕ
 slot_from i = slots_from + i * slot_words
 
+-- where the words of slot i stand
+abbrev pub slot_range : ℕ → Range ℕ
+slot_range i = record { start = slot_from i; end = slot_from i + slot_words }
+
 abbrev pub area_words : ℕ
 area_words = slots_from + positions * slot_words
 
--- no position's number: what stands above the root, and for no ready position
+-- no position's number: what stands above the root
 abbrev pub nobody : ℕ
 nobody = positions
 
--- ---- the phases of a position: its part is placed there, it is finished, waits below a sequence, keeps a negation's set, or is above two
--- others: the entered parts of a sum, the lowest packet and the rest, or the two sides of a concurrent part
+-- ---- the phases of a position, and the words that stand for them
 
-abbrev pub placed_phase : ℕ
-placed_phase = 0
+abbrev pub word_of : Phase → ℕ
+word_of Placed = 0
+word_of Finished = 1
+word_of Waiting = 2
+word_of Negated = 3
+word_of Entered = 4
+word_of Split = 5
+word_of Paired = 6
 
-abbrev pub finished_phase : ℕ
-finished_phase = 1
+unfoldable pub phase_at : ℕ → Phase
+phase_at zero = Placed
+phase_at (suc zero) = Finished
+phase_at (suc (suc zero)) = Waiting
+phase_at (suc (suc (suc zero))) = Negated
+phase_at (suc (suc (suc (suc zero)))) = Entered
+phase_at (suc (suc (suc (suc (suc zero))))) = Split
+phase_at (suc (suc (suc (suc (suc (suc w)))))) = Paired
 
-abbrev pub waiting_phase : ℕ
-waiting_phase = 2
-
-abbrev pub negated_phase : ℕ
-negated_phase = 3
-
-abbrev pub entered_phase : ℕ
-entered_phase = 4
-
-abbrev pub split_phase : ℕ
-split_phase = 5
-
-abbrev pub paired_phase : ℕ
-paired_phase = 6
+-- whether it is above two others
+abbrev pub is_above : Phase → Bool
+is_above Placed = false
+is_above Finished = false
+is_above Waiting = false
+is_above Negated = false
+is_above Entered = true
+is_above Split = true
+is_above Paired = true
 
 -- ---- what the words are
 
 unfoldable pub header_at : List ℕ → ℕ → Header
 header_at w i = record {
   place = get_or w (i * head_words) 0;
-  phase = get_or w (i * head_words + 1) 0;
+  phase = phase_at (get_or w (i * head_words + 1) 0);
   count = get_or w (i * head_words + 2) 0;
   up = get_or w (i * head_words + 3) 0;
   left = get_or w (i * head_words + 4) 0;
@@ -78,7 +91,7 @@ header_at w i = record {
 
 -- the header of a finished position with n packets
 abbrev pub finished_head : ℕ → ℕ → Header
-finished_head up n = record { place = 0; phase = finished_phase; count = n; up = up; left = 0; right = 0 }
+finished_head up n = record { place = 0; phase = Finished; count = n; up = up; left = 0; right = 0 }
 
 -- the n words from p on
 unfoldable pub part : ℕ → ℕ → List ℕ → List ℕ
@@ -100,9 +113,6 @@ ready_list w n = part ready_from n w
 
 abbrev pub free_list : List ℕ → ℕ → List ℕ
 free_list w n = part free_from n w
-
-abbrev pub past_area : List ℕ → List ℕ
-past_area w = drop area_words w
 
 -- ---- what a write leaves
 
@@ -154,7 +164,6 @@ pub record HasSet (w : List ℕ) (i n : ℕ) : Type 0 where
   pub there : i < positions
   pub slim : n ≤ most_packets
   pub rises : Ascending (rows_at w i n)
-  pub area : area_words ≤ length w
 
 -- two sets, a packets in slot l and b in slot r, and another slot i
 pub record Three (w : List ℕ) (i l r a b : ℕ) : Type 0 where

@@ -1,38 +1,72 @@
 // The headers: six words for each position.
-ghost use Rattle.std.specs.Prelude.{◌≡◌, ◌<◌, ◌≤◌, length};
-ghost use Rattle.area.specs.Words.{positions, area_words, header_at, finished_head, Headed};
+ghost use Rattle.std.specs.Prelude.{◌≡◌, ◌<◌, ◌≤◌};
+ghost use Rattle.area.specs.Words.{positions, phase_at, word_of, header_at, finished_head, Headed};
 ghost use Rattle.area.specs.Ready.{done_at};
 
-use crate::{FINISHED, HEAD_WORDS};
+use crate::{HEAD_WORDS, Words};
+
+// The phase of a position: its part is placed there, it is finished, waits below a sequence, keeps a negation's set, or is above two others:
+// the entered parts of a sum, the lowest packet and the rest, or the two sides of a concurrent part.
+#[derive(Clone, Copy, PartialEq, Eq)]
+pub enum Phase {
+    Placed,
+    Finished,
+    Waiting,
+    Negated,
+    Entered,
+    Split,
+    Paired,
+}
+
+// The word that stands for a phase.
+impl From<Phase> for u16 {
+    ghost from_gives = { λ p w. w ≡ word_of p };
+
+    fn from(p: Phase) -> u16 {
+        p as u16
+    }
+}
+
+// The phase that a word stands for.
+impl From<u16> for Phase {
+    ghost from_gives = { λ w p. p ≡ phase_at w };
+
+    #[tactic(auto, unfolding(crate::specs::Words::phase_at))]
+    fn from(w: u16) -> Phase {
+        match w {
+            0 => Phase::Placed,
+            1 => Phase::Finished,
+            2 => Phase::Waiting,
+            3 => Phase::Negated,
+            4 => Phase::Entered,
+            5 => Phase::Split,
+            _ => Phase::Paired,
+        }
+    }
+}
 
 // A header's words: the place of the part's code byte, the phase, how many packets the slot has, the position above and those below.
 #[derive(Clone, Copy)]
 pub struct Header {
-    pub place: usize,
-    pub phase: u16,
-    pub count: usize,
+    pub place: u16,
+    pub phase: Phase,
+    pub count: u16,
     pub up: u16,
     pub left: u16,
     pub right: u16,
 }
 
-// A number as an index.
-pub fn wide(x: u16) -> usize
-    ensures { result ≡ x }
-{
-    x as usize
-}
-
 // Header i read.
-pub fn head(work: &[u16], i: usize) -> Header
-    requires { (i < positions) × (area_words ≤ length work.now) }
+#[tactic(auto, unfolding(crate::specs::Words::header_at))]
+pub fn head(work: &Words, i: usize) -> Header
+    requires { i < positions }
     ensures { result ≡ header_at work.now i }
 {
     let b = i * HEAD_WORDS;
     Header {
-        place: wide(work[b]),
-        phase: work[b + 1],
-        count: wide(work[b + 2]),
+        place: work[b],
+        phase: Phase::from(work[b + 1]),
+        count: work[b + 2],
         up: work[b + 3],
         left: work[b + 4],
         right: work[b + 5],
@@ -40,41 +74,39 @@ pub fn head(work: &[u16], i: usize) -> Header
 }
 
 // Header i written.
-pub fn put_head(
-    work: &mut [u16],
-    i: usize,
-    place: u16,
-    phase: u16,
-    count: u16,
-    up: u16,
-    left: u16,
-    right: u16,
-)
-    requires { (i < positions) × (area_words ≤ length work.old) }
-    ensures { Headed work.old work.new i
-        (record { place = place; phase = phase; count = count; up = up; left = left; right = right }) }
+pub fn put_head(work: &mut Words, i: usize, h: Header)
+    requires { i < positions }
+    ensures { Headed work.old work.new i h }
 {
     let b = i * HEAD_WORDS;
-    work[b] = place;
-    work[b + 1] = phase;
-    work[b + 2] = count;
-    work[b + 3] = up;
-    work[b + 4] = left;
-    work[b + 5] = right;
+    work[b] = h.place;
+    work[b + 1] = u16::from(h.phase);
+    work[b + 2] = h.count;
+    work[b + 3] = h.up;
+    work[b + 4] = h.left;
+    work[b + 5] = h.right;
 }
 
 // Header i of a position that is finished with so many packets.
-pub fn finish(work: &mut [u16], i: usize, up: u16, count: usize)
-    requires { (i < positions) × (count ≤ 16) × (area_words ≤ length work.old) }
+pub fn finish(work: &mut Words, i: usize, up: u16, count: usize)
+    requires { (i < positions) × (count ≤ 16) }
     ensures { Headed work.old work.new i (finished_head up count) }
 {
-    put_head(work, i, 0, FINISHED, count as u16, up, 0, 0);
+    let h = Header {
+        place: 0,
+        phase: Phase::Finished,
+        count: count as u16,
+        up,
+        left: 0,
+        right: 0,
+    };
+    put_head(work, i, h);
 }
 
 // Whether position i is finished.
-pub fn done_at(work: &[u16], i: usize) -> bool
-    requires { (i < positions) × (area_words ≤ length work.now) }
+pub fn done_at(work: &Words, i: usize) -> bool
+    requires { i < positions }
     ensures { result ≡ done_at work.now i }
 {
-    work[i * HEAD_WORDS + 1] == FINISHED
+    head(work, i).phase == Phase::Finished
 }

@@ -2,77 +2,64 @@
 ghost use Rattle.std.specs.Prelude.{◌≡◌, ◌+◌, ◌<◌, ◌≤◌, length};
 ghost use Rattle.rules.specs.Packets.{most_packets, order_of, without, keep, lacks, union, pairs, mix};
 ghost use Rattle.rows.specs.Chunks.{Held};
-ghost use Rattle.area.specs.Words.{positions, row_words, area_words, rows_at, packet_at, Rowed, Filled, HasSet, Three};
+ghost use Rattle.area.specs.Words.{positions, row_words, rows_at, packet_at, Rowed, Filled, HasSet, Three};
 ghost use Rattle.area.specs.Joins.{Leads};
 
-use crate::slots::{move_packet, tidy};
-use crate::{ROW_WORDS, SLOT_WORDS, SLOTS_FROM};
+use crate::slots::{move_packet, slot_range, tidy};
+use crate::{ROW_WORDS, SLOT_WORDS, Words};
 use std::cmp::Ordering;
 
 // The n packets of slot i in an array of their own, zeros after them.
-fn copy_out(work: &[u16], i: usize, n: usize) -> [u16; SLOT_WORDS]
+fn copy_out(work: &Words, i: usize, n: usize) -> [u16; SLOT_WORDS]
     requires { HasSet work.now i n }
     ensures { Held row_words result n (rows_at work.now i n) }
 {
-    let from = SLOTS_FROM + i * SLOT_WORDS;
-    let end = from + SLOT_WORDS;
     let mut v = [0u16; SLOT_WORDS];
-    rows::copy_rows(&mut v, &work[from..end], n, ROW_WORDS);
+    rows::copy_rows(&mut v, &work[slot_range(i)], n, ROW_WORDS);
     v
 }
 
 // The n packets of slot i without the m of slot c, where they stand. Gives how many they are.
-pub fn lack_slots(work: &mut [u16], i: usize, n: usize, c: usize, m: usize) -> usize
+pub fn lack_slots(work: &mut Words, i: usize, n: usize, c: usize, m: usize) -> usize
     requires { HasSet work.old i n × HasSet work.old c m }
     ensures { Filled work.old work.new i result
         (keep (lacks (rows_at work.old c m)) (rows_at work.old i n)) }
 {
     let b = copy_out(work, c, m);
     tidy(work, i, n);
-    let from = SLOTS_FROM + i * SLOT_WORDS;
-    let end = from + SLOT_WORDS;
-    sets::difference_in(&mut work[from..end], n, &b, m, ROW_WORDS)
+    sets::difference_in(&mut work[slot_range(i)], n, &b, m, ROW_WORDS)
 }
 
 // The first packet of slot l, but its fields w from that of slot r, as the first packet of slot i.
-fn pair_one(work: &mut [u16], i: usize, l: usize, r: usize, w: u16)
-    requires { (i < positions) × (l < positions) × (r < positions) × (area_words ≤ length work.old) }
+fn pair_one(work: &mut Words, i: usize, l: usize, r: usize, w: u16)
+    requires { (i < positions) × (l < positions) × (r < positions) }
     ensures { Rowed work.old work.new i 0
         (mix w (packet_at work.old l 0) (packet_at work.old r 0)) }
 {
-    let left = SLOTS_FROM + l * SLOT_WORDS;
-    let left_end = left + SLOT_WORDS;
-    let right = SLOTS_FROM + r * SLOT_WORDS;
-    let right_end = right + SLOT_WORDS;
+    let words: &Words = work;
     let p = rows::mix_rows(
         w,
-        &work[left..left_end],
+        &words[slot_range(l)],
         0,
-        &work[right..right_end],
+        &words[slot_range(r)],
         0,
         ROW_WORDS,
     );
-    let to = SLOTS_FROM + i * SLOT_WORDS;
-    let end = to + SLOT_WORDS;
-    rows::put_row(&mut work[to..end], 0, &p, ROW_WORDS);
+    rows::put_row(&mut work[slot_range(i)], 0, &p, ROW_WORDS);
 }
 
 // The first packet of slot i without the fields w, as the first packet of slot j.
-pub fn bare_packet(work: &mut [u16], i: usize, j: usize, w: u16)
-    requires { (i < positions) × (j < positions) × (area_words ≤ length work.old) }
+pub fn bare_packet(work: &mut Words, i: usize, j: usize, w: u16)
+    requires { (i < positions) × (j < positions) }
     ensures { Rowed work.old work.new j 0 (without w (packet_at work.old i 0)) }
 {
-    let from = SLOTS_FROM + i * SLOT_WORDS;
-    let from_end = from + SLOT_WORDS;
-    let p = rows::bare_row(w, &work[from..from_end], ROW_WORDS);
-    let to = SLOTS_FROM + j * SLOT_WORDS;
-    let end = to + SLOT_WORDS;
-    rows::put_row(&mut work[to..end], 0, &p, ROW_WORDS);
+    let p = rows::bare_row(w, &work[slot_range(i)], ROW_WORDS);
+    rows::put_row(&mut work[slot_range(j)], 0, &p, ROW_WORDS);
 }
 
 // Every pairing of one of the a packets of slot l and one of the b of slot r, in slot i: the fields w from the latter. Gives how many.
 pub fn pair_slots(
-    work: &mut [u16],
+    work: &mut Words,
     i: usize,
     l: usize,
     r: usize,
@@ -84,36 +71,22 @@ pub fn pair_slots(
     ensures { Filled work.old work.new i result
         (pairs w (rows_at work.old l a) (rows_at work.old r b)) }
 {
-    if a == 1 {
-        if b == 1 {
-            pair_one(work, i, l, r, w);
-            return 1;
-        }
+    if a == 1 && b == 1 {
+        pair_one(work, i, l, r, w);
+        return 1;
     }
     let x = copy_out(work, l, a);
     let y = copy_out(work, r, b);
     tidy(work, i, 0);
-    let to = SLOTS_FROM + i * SLOT_WORDS;
-    let end = to + SLOT_WORDS;
-    sets::pairs_into(&mut work[to..end], &x, a, &y, b, w, ROW_WORDS).unwrap()
+    sets::pairs_into(&mut work[slot_range(i)], &x, a, &y, b, w, ROW_WORDS).unwrap()
 }
 
 // How packet x of slot l lies to packet y of slot r.
-fn order_packets(work: &[u16], l: usize, x: usize, r: usize, y: usize) -> Ordering
-    requires { (l < positions) × (x < most_packets) × (r < positions) × (y < most_packets) × (area_words ≤ length work.now) }
+fn order_packets(work: &Words, l: usize, x: usize, r: usize, y: usize) -> Ordering
+    requires { (l < positions) × (x < most_packets) × (r < positions) × (y < most_packets) }
     ensures { result ≡ order_of (packet_at work.now l x) (packet_at work.now r y) }
 {
-    let left = SLOTS_FROM + l * SLOT_WORDS;
-    let left_end = left + SLOT_WORDS;
-    let right = SLOTS_FROM + r * SLOT_WORDS;
-    let right_end = right + SLOT_WORDS;
-    rows::order_rows(
-        &work[left..left_end],
-        x,
-        &work[right..right_end],
-        y,
-        ROW_WORDS,
-    )
+    rows::order_rows(&work[slot_range(l)], x, &work[slot_range(r)], y, ROW_WORDS)
 }
 
 // The next packet of a union: its slot and its row there, and where the two sets go on after it.
@@ -132,7 +105,7 @@ fn taking(slot: usize, row: usize, x: usize, y: usize) -> Next
 }
 
 // The next packet of the union of the a packets of slot l, from x on, and the b of slot r, from y on.
-fn lead(work: &[u16], l: usize, r: usize, a: usize, b: usize, x: usize, y: usize) -> Next
+fn lead(work: &Words, l: usize, r: usize, a: usize, b: usize, x: usize, y: usize) -> Next
     requires { HasSet work.now l a × HasSet work.now r b × (x ≤ a) × (y ≤ b) × (x + y < a + b) }
     ensures { Leads work.now l r a b x y result }
 {
@@ -151,7 +124,7 @@ fn lead(work: &[u16], l: usize, r: usize, a: usize, b: usize, x: usize, y: usize
 }
 
 // The a packets of slot l and the b of slot r merged into slot i. Gives how many they are.
-pub fn union_slots(work: &mut [u16], i: usize, l: usize, r: usize, a: usize, b: usize) -> usize
+pub fn union_slots(work: &mut Words, i: usize, l: usize, r: usize, a: usize, b: usize) -> usize
     requires { Three work.old i l r a b × (length (union (rows_at work.old l a) (rows_at work.old r b)) ≤ most_packets) }
     ensures { Filled work.old work.new i result
         (union (rows_at work.old l a) (rows_at work.old r b)) }

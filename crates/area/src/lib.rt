@@ -7,10 +7,10 @@ mod joins;
 mod lists;
 mod slots;
 
-pub use headers::{finish, head, put_head, wide};
+pub use headers::{Header, Phase, finish, head, put_head};
 pub use joins::{bare_packet, lack_slots, pair_slots, union_slots};
-pub use lists::{give_back, ready_at, relist, take_free};
-pub use slots::{copy_packets, copy_set, emit_packets, keep_packets, put_packet, set_packets};
+pub use lists::{Ready, give_back, ready_at, relist, take_free};
+pub use slots::{copy_packets, emit_packets, keep_packets, put_packet, set_packets};
 
 // How many positions there are, and how many words a packet has.
 pub const POSITIONS: usize = 160;
@@ -33,20 +33,8 @@ const SLOTS_FROM: usize = FREE_FROM + POSITIONS;
 
 pub const AREA_WORDS: usize = SLOTS_FROM + POSITIONS * SLOT_WORDS;
 
-// No position's number: what stands above the root, and for no ready position.
-pub const NOBODY: usize = POSITIONS;
+// The words of an area.
+pub type Words = [u16; AREA_WORDS];
 
-// The phases of a position.
-pub const PLACED: u16 = 0;
-
-pub const FINISHED: u16 = 1;
-
-pub const WAITING: u16 = 2;
-
-pub const NEGATED: u16 = 3;
-
-pub const ENTERED: u16 = 4;
-
-pub const SPLIT: u16 = 5;
-
-pub const PAIRED: u16 = 6;
+// No position's number: the word that stands above the root.
+pub const NOBODY: u16 = POSITIONS as u16;

@@ -102,11 +102,6 @@ module _ {s : List ℕ} {named : ℕ → Part} {d at : ℕ} {p : Part} {n : ℕ}
 
 -- ---- up
 
--- the answer that a part is too wide
-pub stops : (p : Part) (s : Packets) (n : ℕ) (t : Packets) (r : Result Worked TooWide) → IsErr r → most_packets < width p s → Did p s n t r
-stops p s n t (Ok w) e h = no (sym e)
-stops p s n t (Err w) e h = h
-
 -- what a part gives, and that it is too wide, on packets that are the same
 pub on : {p : Part} {s s' u : Packets} {n : ℕ} {a : Worked} → s ≡ s' → NotWide p s n u a → NotWide p s' n u a
 on e g = rw e at g

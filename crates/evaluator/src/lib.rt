@@ -15,7 +15,7 @@ ghost use Rattle.evaluator.specs.Work.{named_in, part_in, not_from, sum_from, se
 ghost use Rattle.evaluator.specs.Work.{after_two, Fair, NotWide, Did, Small, Sees, IsAccepted, Populated, worked};
 ghost use Rattle.evaluator.specs.Passing.{Passable, Passes, Weighs};
 
-use rows::MOST;
+use rows::{MOST, Row};
 use rules::{Head, Outcome, Reason, Refusal, Sizes};
 use sets::{PLACES, PacketSet, TooWide};
 
@@ -202,10 +202,9 @@ fn one_packet(
     main: bool,
     head: Head,
     depth: usize,
-    row: &[u16],
+    row: &Row,
     out: &mut PacketSet,
 ) -> Result<Worked, TooWide>
-    requires row { places ≤ length row.now }
     requires none_yet { packets out.old ≡ [] }
     requires fair { Fair (beside_of book.now main depth head) }
     ensures { Did (beside_of book.now main depth head)

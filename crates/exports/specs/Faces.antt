@@ -1,9 +1,8 @@
 -- An answer as a code and a list of values, and the words that a caller lends for the values.
-use Rattle.std.specs.Prelude.{ℕ, ◌≤◌, ◌≡◌, cond, List, [], ◌∷◌, leb, length, take}
+use Rattle.std.specs.Prelude.{ℕ, ◌≡◌, cond, List, [], ◌∷◌, leb, length}
 use Rattle.rules.specs.Reading.{verdict}
 use Rattle.rules.specs.Answers.{Says, refusal, accepted, packets, finished, running, verdict_says, evaluated_says, ran_says}
 use Rattle.rules.specs.Answers.{overwritten, evaluated, evaluated_result, ran, ran_result, ran_area}
-use Rattle.exports.specs.declared.Face.{Face}
 
 -- the values need five words; a call that lends fewer is answered 255, and nothing is done
 abbrev pub face_words : ℕ
@@ -35,11 +34,10 @@ returned a words = cond (leb face_words words) (code_of a) too_few_words
 unfoldable pub laid : Says → List ℕ → List ℕ
 laid a out = cond (leb face_words (length out)) (overwritten (values_of a) out) out
 
--- the code and the values of a face that the code makes
-pub record Shows (f : Face) (a : Says) : Type 0 where
-  pub few : f.count ≤ face_words
-  pub code : f.code ≡ code_of a
-  pub values : take f.count f.values ≡ values_of a
+-- the code is returned, and the values are laid in front of the words
+pub record Lays (a : Says) (before after : List ℕ) (r : ℕ) : Type 0 where
+  pub code : r ≡ code_of a
+  pub values : after ≡ overwritten (values_of a) before
 
 -- ---- the faces: what is returned, and every lent word afterwards
 

@@ -2,101 +2,85 @@
 // Each answers a code (0: answered, 100: running, else the number that turns the call away) and lays values in the caller's words.
 #![tactic(auto)]
 
-ghost use Rattle.std.specs.Prelude.{◌≡◌, ◌≤◌, length, take};
+ghost use Rattle.std.specs.Prelude.{◌≡◌, ◌≤◌, length};
 ghost use Rattle.rules.specs.Answers.{refusal_says, verdict_says, evaluated_says, ran_says, overwritten};
-ghost use Rattle.exports.specs.Faces.{Shows, AcceptFace, EvaluateFace, RunFace};
+ghost use Rattle.exports.specs.Faces.{Lays, AcceptFace, EvaluateFace, RunFace};
 
 use rules::{Outcome, Ran, Refusal, Sizes};
 
-// A code, and as many of the values as count.
-#[derive(Clone, Copy)]
-struct Face {
-    code: u64,
-    values: [u64; 5],
-    count: usize,
-}
+// A call needs so many words for the values; one that lends fewer is answered 255. What lays them takes the caller's slice and no array of
+// five: each face would have to cut the array off, and to say what becomes of the rest. Counts are cast: no From makes a u64 of a usize.
+const FACE_WORDS: usize = 5;
 
-fn refusal_face(r: Refusal) -> Face
-    ensures { Shows result (refusal_says r) }
+const TOO_FEW_WORDS: u64 = 255;
+
+// Lays values in front of the caller's words, and hands the code on.
+#[tactic(auto, unfolding(rules::specs::Answers::overwritten))]
+fn lay(code: u64, values: &[u64], out: &mut [u64]) -> u64
+    requires { length values.now ≤ length out.old }
+    ensures { (result ≡ code) × (out.new ≡ overwritten values.now out.old) }
 {
-    Face {
-        code: r.number() as u64,
-        values: [r.place as u64, 0, 0, 0, 0],
-        count: 1,
-    }
+    out[..values.len()].copy_from_slice(values);
+    code
 }
 
-fn verdict_face(v: Result<Sizes, Refusal>) -> Face
-    ensures { Shows result (verdict_says v) }
+#[tactic(auto, unfolding(rules::specs::Answers::refusal_says, crate::specs::Faces::code_of, crate::specs::Faces::values_of))]
+fn lay_refusal(r: Refusal, out: &mut [u64]) -> u64
+    requires { FACE_WORDS ≤ length out.old }
+    ensures { Lays (refusal_says r) out.old out.new result }
+{
+    lay(r.number() as u64, &[r.place as u64], out)
+}
+
+#[tactic(auto, unfolding(rules::specs::Answers::verdict_says, crate::specs::Faces::code_of, crate::specs::Faces::values_of))]
+fn lay_verdict(v: Result<Sizes, Refusal>, out: &mut [u64]) -> u64
+    requires { FACE_WORDS ≤ length out.old }
+    ensures { Lays (verdict_says v) out.old out.new result }
 {
     match v {
-        Ok(z) => Face {
-            code: 0,
-            values: [
+        Ok(z) => {
+            let values = [
                 z.fields as u64,
                 z.tables as u64,
                 z.parts as u64,
                 z.deep as u64,
-                0,
-            ],
-            count: 4,
-        },
-        Err(r) => refusal_face(r),
+            ];
+            lay(0, &values, out)
+        }
+        Err(r) => lay_refusal(r, out),
     }
 }
 
-fn evaluated_face(e: Result<Outcome, Refusal>) -> Face
-    ensures { Shows result (evaluated_says e) }
+#[tactic(auto, unfolding(rules::specs::Answers::evaluated_says, crate::specs::Faces::code_of, crate::specs::Faces::values_of))]
+fn lay_evaluated(e: Result<Outcome, Refusal>, out: &mut [u64]) -> u64
+    requires { FACE_WORDS ≤ length out.old }
+    ensures { Lays (evaluated_says e) out.old out.new result }
 {
     match e {
-        Ok(o) => Face {
-            code: 0,
-            values: [
+        Ok(o) => {
+            let values = [
                 o.count as u64,
                 o.steps,
                 o.parts as u64,
                 o.deep as u64,
                 o.room,
-            ],
-            count: 5,
-        },
-        Err(r) => refusal_face(r),
+            ];
+            lay(0, &values, out)
+        }
+        Err(r) => lay_refusal(r, out),
     }
 }
 
-fn ran_face(a: Result<Ran, Refusal>) -> Face
-    ensures { Shows result (ran_says a) }
+#[tactic(auto, unfolding(rules::specs::Answers::ran_says, crate::specs::Faces::code_of, crate::specs::Faces::values_of))]
+fn lay_ran(a: Result<Ran, Refusal>, out: &mut [u64]) -> u64
+    requires { FACE_WORDS ≤ length out.old }
+    ensures { Lays (ran_says a) out.old out.new result }
 {
     match a {
-        Ok(ran) => match ran {
-            Ran::Finished(f) => Face {
-                code: 0,
-                values: [f.steps as u64, f.count as u64, 0, 0, 0],
-                count: 2,
-            },
-            Ran::Running(p) => Face {
-                code: 100,
-                values: [p.steps as u64, p.live as u64, p.ready as u64, 0, 0],
-                count: 3,
-            },
-        },
-        Err(r) => refusal_face(r),
+        Ok(Ran::Finished(f)) => lay(0, &[f.steps as u64, f.count as u64], out),
+        Ok(Ran::Running(p)) => lay(100, &[p.steps as u64, p.live as u64, p.ready as u64], out),
+        Err(r) => lay_refusal(r, out),
     }
-}
-
-// The values of a face put in front of the caller's words.
-fn lay(f: Face, out: &mut [u64]) -> u64
-    requires { (f.count ≤ 5) × (5 ≤ length out.old) }
-    ensures { (result ≡ f.code) × (out.new ≡ overwritten (take f.count f.values) out.old) }
-{
-    let n = f.count;
-    let v = f.values;
-    let mut i: usize = 0;
-    while i < n {
-        out[i] = v[i];
-        i += 1;
-    }
-    f.code
 }
 
 // The verdict on a book: k, m, n and D, or a number and its place.
@@ -104,11 +88,10 @@ fn lay(f: Face, out: &mut [u64]) -> u64
 pub extern "C" fn hamstedew_accept(book: &[u8], sizes: &mut [u64]) -> u64
     ensures { AcceptFace book.now sizes.old sizes.new result }
 {
-    if sizes.len() < 5 {
-        return 255;
+    if sizes.len() < FACE_WORDS {
+        return TOO_FEW_WORDS;
     }
-    let v = typing::accept(book);
-    lay(verdict_face(v), sizes)
+    lay_verdict(typing::accept(book), sizes)
 }
 
 // A packet through a book: the count, N, n, D and the room, or a number and its place; the packets go to the result.
@@ -122,11 +105,10 @@ pub extern "C" fn hamstedew_evaluate(
     ensures { EvaluateFace book.now packet.now
         res.old res.new outcome.old outcome.new result }
 {
-    if outcome.len() < 5 {
-        return 255;
+    if outcome.len() < FACE_WORDS {
+        return TOO_FEW_WORDS;
     }
-    let e = evaluator::evaluate(book, packet, res);
-    lay(evaluated_face(e), outcome)
+    lay_evaluated(evaluator::evaluate(book, packet, res), outcome)
 }
 
 // A packet through a book under a schedule: steps and count; steps, live and ready positions of a short one; or a number and its
@@ -144,9 +126,8 @@ pub extern "C" fn hamstedew_run(
         res.old res.new area.old area.new
         progress.old progress.new result }
 {
-    if progress.len() < 5 {
-        return 255;
+    if progress.len() < FACE_WORDS {
+        return TOO_FEW_WORDS;
     }
-    let a = machine::run(book, packet, schedule, res, area);
-    lay(ran_face(a), progress)
+    lay_ran(machine::run(book, packet, schedule, res, area), progress)
 }

@@ -18,12 +18,12 @@ use Rattle.links.proofs.Plugging.{plug_held}
 use Rattle.links.proofs.ReadyOnes.{Found, ready_plug}
 use Rattle.links.proofs.Local.{prime_going, local_step}
 use Rattle.area.specs.Words.{positions, ready_from, area_words, nobody, header_at, part, ready_list, Listed}
-use Rattle.area.specs.Ready.{news_at, Relisting}
+use Rattle.area.specs.declared.lists.Ready.{Ready}
+use Rattle.area.specs.Ready.{numbers, news_at, Relisting}
 use Rattle.steps.specs.State.{showing, Holds, Turned}
-use Rattle.area.proofs.Words.{past_out}
 use Rattle.steps.proofs.Refining.{listed_all, found_at, relist_asks, move_holds}
 use Rattle.machine.specs.Steps.{Stepping, Stepped}
-use Rattle.machine.specs.Runs.{Fit, Playable, Advancing, Beyond, Advanced}
+use Rattle.machine.specs.Runs.{Fit, Playable, Advancing, Advanced}
 use Rattle.machine.proofs.Phases.{above_root}
 use Rattle.machine.proofs.Positions.{fit_plug, prime_own, Near, can_step}
 
@@ -50,12 +50,12 @@ prime_ready rests = refl
 prime_ready single = refl
 prime_ready double = refl
 
-module _ (s w : List ℕ) (n r : ℕ) (t : Tree) (H : Holds s w n r t) where
+module _ (s w : List ℕ) (n r : ℕ) (t : Tree) (H : Holds s w n r t) (room : length w ≡ area_words) where
   -- ---- nothing is ready: the state stays
 
   pub stays : (b : ℕ) → r ≡ 0 → move b t ≡ t
   unfolding move
-  stays b z = none (next t) (sym (ready_count t ∙ sym (listed_all H) ∙ z))
+  stays b z = none (next t) (sym (ready_count t ∙ sym (listed_all H room) ∙ z))
     where
       none : (l : List Tree) → 0 ≡ length l → get_or l (b % ready t) t ≡ t
       none [] e = refl
@@ -65,7 +65,7 @@ module _ (s w : List ℕ) (n r : ℕ) (t : Tree) (H : Holds s w n r t) where
 
   module _ (j i : ℕ) (l : j < r) (ei : i ≡ get_or w (ready_from + j) 0) where
     abbrev F : Found H.net j
-    F = found_at H j l
+    F = found_at H room j l
 
     abbrev c : List Frame
     c = F.around
@@ -96,7 +96,7 @@ module _ (s w : List ℕ) (n r : ℕ) (t : Tree) (H : Holds s w n r t) where
     -- the rules' step there
     step_is : move j t ≡ bare (plug c (numbered (move 0 (bare x))))
     step_is =
-        let k = listed_all H in
+        let k = listed_all H room in
         let e : j % readies t ≡ length (lefts c) = mod-eq_of_lt (omega arith) ∙ sym F.first in
         let d : t ≡ bare (plug c x) = sym H.bare ∙ ap bare F.whole in
         move_at j t (omega arith) ∙ ap (step_at t) e ∙ ap (λ (y : Tree). step_at y (length (lefts c))) d
@@ -130,7 +130,6 @@ module _ (s w : List ℕ) (n r : ℕ) (t : Tree) (H : Holds s w n r t) where
               ap live (bare_numbered (move 0 (bare x))),
             );
             readable = readable;
-            area = H.area;
           }
 
       pub can_pick : Stepping s w n i
@@ -138,46 +137,39 @@ module _ (s w : List ℕ) (n r : ℕ) (t : Tree) (H : Holds s w n r t) where
 
     -- ---- the step is made, and the list put right
 
-    module _ (v : List ℕ) (m a q : ℕ) (S : Stepped s w v n m i a q) where
-      turned : Turned s w v n m (foot x) (up_of nobody c) (root x) (move 0 (bare x)) a q
+    module _ (v : List ℕ) (m : ℕ) (offer : Ready) (S : Stepped s w v n m i offer) where
+      turned : Turned s w v n m (foot x) (up_of nobody c) (root x) (move 0 (bare x)) offer
       unfolding Stepped
       turned = rw (up_is, ← picked_root) at (S x F.own picked_root (rw up_is at_hole.0))
 
-      pub relist_there : (up : ℕ) → up ≡ (header_at w i).up → Relisting v r j up a q
-      relist_there up e = rw (e ∙ up_is) (relist_asks H F (prime_own F.own) turned l)
+      pub relist_there : (up : ℕ) → up ≡ (header_at w i).up → Relisting v r j up offer
+      relist_there up e = rw (e ∙ up_is) (relist_asks H room F (prime_own F.own) turned l)
 
-      module _ (u : List ℕ) (up k : ℕ) (e : up ≡ (header_at w i).up) (L : Listed v u r j (news_at v up a q))
-          (ek : k ≡ r - 1 + length (news_at v up a q)) where
+      module _ (u : List ℕ) (up k : ℕ) (e : up ≡ (header_at w i).up) (L : Listed v u r j (numbers (news_at v up offer)))
+          (ek : k ≡ r - 1 + length (numbers (news_at v up offer))) where
         pub moved : (b : ℕ) → j ≡ b % r → Holds s u m k (move b t)
         moved b ej =
-            rw ek (rw (e ∙ up_is) (move_holds H F (prime_own F.own) turned (rw (e ∙ up_is) at L) b ej (omega arith)))
-
-        pub beyond : Beyond w u
-        beyond = record {
-          past = past_out L.out area_words (omega arith) ∙ turned.makes.else.past;
-          long = L.out.long ∙ turned.makes.else.long;
-        }
+            rw ek (rw (e ∙ up_is) (move_holds H room F (prime_own F.own) turned (rw (e ∙ up_is) at L) b ej (omega arith)))
 
 -- ---- a choice, whatever state the words hold
 
 pub picks : (b r : ℕ) → (r ≡ 0 → ⊥) → b % r < r
 picks b r goes = mod-lt b (omega (arith, goes))
 
-module _ (s w : List ℕ) (n r b : ℕ) (A : Advancing s w n r) where
+module _ (s w : List ℕ) (n r b : ℕ) (A : Advancing s w n r) (room : length w ≡ area_words) where
   pub idle : r ≡ 0 → Advanced s w w n r n r b
-  idle z = record { moved = λ t H. rw (stays s w n r t H b z) H; beyond = record { past = refl; long = refl } }
+  idle z = record { moved = λ t H. rw (stays s w n r t H room b z) H }
 
   module _ (i : ℕ) (goes : r ≡ 0 → ⊥) (ei : i ≡ get_or w (ready_from + b % r) 0) where
     pub can_choose : Stepping s w n i
-    can_choose = can_pick s w n r A.tree A.holds (b % r) i (picks b r goes) ei A.readable A.playable
+    can_choose = can_pick s w n r A.tree A.holds room (b % r) i (picks b r goes) ei A.readable A.playable
 
-    module _ (v : List ℕ) (m a q up : ℕ) (S : Stepped s w v n m i a q) (eu : up ≡ (header_at w i).up) where
-      pub can_relist : Relisting v r (b % r) up a q
-      can_relist = relist_there s w n r A.tree A.holds (b % r) i (picks b r goes) ei v m a q S up eu
+    module _ (v : List ℕ) (m : ℕ) (offer : Ready) (up : ℕ) (S : Stepped s w v n m i offer) (eu : up ≡ (header_at w i).up) where
+      pub can_relist : Relisting v r (b % r) up offer
+      can_relist = relist_there s w n r A.tree A.holds room (b % r) i (picks b r goes) ei v m offer S up eu
 
-      pub advanced : (u : List ℕ) (k : ℕ) → Listed v u r (b % r) (news_at v up a q) → k ≡ r - 1 + length (news_at v up a q)
-          → Advanced s w u n r m k b
+      pub advanced : (u : List ℕ) (k : ℕ) → Listed v u r (b % r) (numbers (news_at v up offer))
+          → k ≡ r - 1 + length (numbers (news_at v up offer)) → Advanced s w u n r m k b
       advanced u k L ek = record {
-        moved = λ t H. moved s w n r t H (b % r) i (picks b r goes) ei v m a q S u up k eu L ek b refl;
-        beyond = beyond s w n r A.tree A.holds (b % r) i (picks b r goes) ei v m a q S u up k eu L ek;
+        moved = λ t H. moved s w n r t H room (b % r) i (picks b r goes) ei v m offer S u up k eu L ek b refl;
       }

@@ -40,24 +40,25 @@ values_few k [] = omega arith
 values_few k (x ∷ F) =
     omega (arith, length-append (take k x) (values_of k F), length-take k x, values_few k F, suc-mul (length F) k)
 
-module _ (s w v : List ℕ) (n r k : ℕ) (t : Tree) (bs : List ℕ) (p : Played s w v n r k t bs) (pl : Playable s t) where
+module _ (s v : List ℕ) (n r k : ℕ) (t : Tree) (bs : List ℕ) (p : Played s v n r k t bs) (pl : Playable s t)
+    (room : length v ≡ area_words) where
   abbrev T : Tree
   T = run t bs
 
   abbrev H : Holds s v n r T
-  H = p.started.holds
+  H = p.holds
 
   -- a step is ready: running
   pub running_answer : (r ≡ 0 → ⊥) → Running (record { steps = k; live = positions - n; ready = r }) ≡ stopped (made t bs) T (finish T)
   running_answer some =
-      let u = unfinished T (goes_is (view T) (omega (arith, ready_is H, some))) in
+      let u = unfinished T (goes_is (view T) (omega (arith, ready_is H room, some))) in
       let l : positions - n ≡ live_in T = omega (arith, H.size, live_foot H.net, ap live_in H.bare) in
-      rw (u.0, p.steps, ready_is H) (ap (λ (x : ℕ). Running (record { steps = made t bs; live = x; ready = ready T })) l)
+      rw (u.0, p.steps, ready_is H room) (ap (λ (x : ℕ). Running (record { steps = made t bs; live = x; ready = ready T })) l)
 
   -- nothing is ready: finished, with the set of the only position
   module _ (z : r ≡ 0) where
     is_done : T ≡ done (final T)
-    is_done = finished T (over_is (view T) (sym (ready_is H) ∙ z))
+    is_done = finished T (over_is (view T) (sym (ready_is H room) ∙ z))
 
     set_there : set_at v 0 ≡ final T
     set_there = rw H.root at (done_set s v nobody H.net (final T) (H.bare ∙ is_done) H.held)
@@ -77,8 +78,8 @@ module _ (s w v : List ℕ) (n r k : ℕ) (t : Tree) (bs : List ℕ) (p : Played
       count_is : count ≡ length (final T)
       count_is = sym (length_chunks row_words count _) ∙ ap length rows_are
 
-      pub can_read : (0 < positions) × (count ≤ most_packets) × (area_words ≤ length v)
-      can_read = (omega arith, omega (arith, count_is, slim.0), H.area)
+      pub can_read : (0 < positions) × (count ≤ most_packets)
+      can_read = (omega arith, omega (arith, count_is, slim.0))
 
       pub finished_answer : Finished (record { steps = k; count = count }) ≡ stopped (made t bs) T (finish T)
       finished_answer = rw (finish_is, p.steps) (ap (λ (x : ℕ). Finished (record { steps = made t bs; count = x })) count_is)
@@ -95,10 +96,9 @@ module _ (s w v : List ℕ) (n r k : ℕ) (t : Tree) (bs : List ℕ) (p : Played
           rw finish_is (d.words ∙ ap (λ (c : Bool). onto c (values_of x (rows_at v 0 count)) o) q
           ∙ ap (λ (u : List ℕ). u ++ drop (length u) o) y)
 
--- the area cleared
-pub cleared : (w v u : List ℕ) → drop area_words v ≡ drop area_words w → u ≡ replicate area_words 0 ++ drop area_words v
-    → u ≡ overwritten (replicate area_words 0) w
+-- the area cleared, and what stands past it
+pub cleared : (w u : List ℕ) → u ≡ replicate area_words 0 → u ++ drop area_words w ≡ overwritten (replicate area_words 0) w
 unfolding overwritten
-cleared w v u k e =
-    e ∙ ap (λ (x : List ℕ). replicate area_words 0 ++ x) k
+cleared w u e =
+    ap (λ (x : List ℕ). x ++ drop area_words w) e
     ∙ ap (λ (n : ℕ). replicate area_words 0 ++ drop n w) (sym (length-replicate {A = ℕ} area_words 0))

@@ -11,9 +11,10 @@ use Rattle.rules.proofs.Measures.{rest}
 use Rattle.rules.proofs.Schedules.{View, over, going, view, finished, ran}
 use Rattle.rules.proofs.Choose.{ready_count}
 use Rattle.steps.specs.Standing.{Readable}
+use Rattle.area.specs.Words.{area_words}
 use Rattle.steps.specs.State.{Holds}
 use Rattle.steps.proofs.Refining.{listed_all}
-use Rattle.machine.specs.Runs.{Playable, Advancing, Beyond, Advanced, Started, Played}
+use Rattle.machine.specs.Runs.{Playable, Advancing, Advanced, Played}
 
 -- one run after another
 run_more : (bs cs : List ℕ) (t : Tree) → run t (bs ++ cs) ≡ run (run t bs) cs
@@ -22,8 +23,8 @@ run_more [] cs t = refl
 run_more (b ∷ bs) cs t = run_more bs cs (move b t)
 
 -- as many are listed as are ready
-pub ready_is : {s w : List ℕ} {n r : ℕ} {t : Tree} → Holds s w n r t → r ≡ ready t
-ready_is {t = t} h = listed_all h ∙ sym (ready_count t)
+pub ready_is : {s w : List ℕ} {n r : ℕ} {t : Tree} → Holds s w n r t → length w ≡ area_words → r ≡ ready t
+ready_is {t = t} h room = listed_all h room ∙ sym (ready_count t)
 
 -- nothing is ready: finished
 pub over_is : {t : Tree} → View t → ready t ≡ 0 → rest t ≡ 0
@@ -37,20 +38,18 @@ unfolding next
 goes_is over h = absurd (omega arith)
 goes_is (going t h k n) g = h
 
-pub beyond_then : {w v u : List ℕ} → Beyond w v → Beyond v u → Beyond w u
-beyond_then a b = record { past = b.past ∙ a.past; long = b.long ∙ a.long }
-
 -- after k bytes, each of which was a step
-pub record Playing (s w v : List ℕ) (n r k : ℕ) (t : Tree) (bs : List ℕ) : Type 0 where
-  pub started : Started s w v n r (run t (take k bs))
+pub record Playing (s v : List ℕ) (n r k : ℕ) (t : Tree) (bs : List ℕ) : Type 0 where
+  pub holds : Holds s v n r (run t (take k bs))
+  pub long : length v ≡ area_words
   pub read : k ≤ length bs
   pub steps : k ≤ rest t
 
-pub play_starts : {s w : List ℕ} {n r : ℕ} {t : Tree} (bs : List ℕ) → Started s w w n r t → Playing s w w n r 0 t bs
+pub play_starts : {s w : List ℕ} {n r : ℕ} {t : Tree} (bs : List ℕ) → Holds s w n r t → length w ≡ area_words → Playing s w n r 0 t bs
 unfolding run
-play_starts bs h = record { started = h; read = omega arith; steps = omega arith }
+play_starts bs h room = record { holds = h; long = room; read = omega arith; steps = omega arith }
 
-module _ (s w v : List ℕ) (n r k : ℕ) (t : Tree) (bs : List ℕ) (p : Playing s w v n r k t bs) where
+module _ (s v : List ℕ) (n r k : ℕ) (t : Tree) (bs : List ℕ) (p : Playing s v n r k t bs) where
   abbrev after : Tree
   after = run t (take k bs)
 
@@ -61,37 +60,38 @@ module _ (s w v : List ℕ) (n r k : ℕ) (t : Tree) (bs : List ℕ) (p : Playin
   can_advance readable playable = record {
     readable = readable;
     tree = after;
-    holds = p.started.holds;
+    holds = p.holds;
     playable = λ cs. rw (run_more (take k bs) cs t) at (playable (take k bs ++ cs));
   }
 
   -- one byte more is one step more
   pub play_turns : (u : List ℕ) (m q b : ℕ) → k < length bs → b ≡ get_or bs k 0 → (r ≡ 0 → ⊥) → Advanced s v u n r m q b
-      → Playing s w u m q (k + 1) t bs
+      → length u ≡ area_words → Playing s u m q (k + 1) t bs
   unfolding run
-  play_turns u m q b there eb goes a =
+  play_turns u m q b there eb goes a room =
       let more : take (k + 1) bs ≡ take k bs ++ b ∷ [] =
       ap (λ (x : ℕ). take x bs) (add-one k) ∙ take-suc bs k 0 there ∙ ap (λ (x : ℕ). take k bs ++ x ∷ []) (sym eb) in
       let e : run t (take (k + 1) bs) ≡ move b after = ap (run t) more ∙ run_more (take k bs) (b ∷ []) t in
-      let g : 0 < rest after = goes_is (view after) (omega (arith, ready_is p.started.holds, goes)) in
+      let g : 0 < rest after = goes_is (view after) (omega (arith, ready_is p.holds p.long, goes)) in
       record {
-        started = rw e (record { holds = a.moved after p.started.holds; beyond = beyond_then p.started.beyond a.beyond });
+        holds = rw e (a.moved after p.holds);
+        long = room;
         read = omega arith;
         steps = omega (arith, after_rest);
       }
 
   -- the schedule is at its end
-  pub play_ends : length bs ≤ k → Played s w v n r k t bs
+  pub play_ends : length bs ≤ k → Played s v n r k t bs
   play_ends h =
       let z = (ran bs t).steps in
-      record { started = rw (take_all k bs h) at p.started; steps = omega (arith, p.read, p.steps) }
+      record { holds = rw (take_all k bs h) at p.holds; steps = omega (arith, p.read, p.steps) }
 
   -- nothing is ready: the bytes left are not read
-  pub play_over : r ≡ 0 → Played s w v n r k t bs
+  pub play_over : r ≡ 0 → Played s v n r k t bs
   play_over e =
-      let d : rest after ≡ 0 = over_is (view after) (sym (ready_is p.started.holds) ∙ e) in
+      let d : rest after ≡ 0 = over_is (view after) (sym (ready_is p.holds p.long) ∙ e) in
       let z = (ran bs t).steps in
       let q : rest (run t bs) ≡ 0 = omega (arith, (ran bs t).left, after_rest, p.read, p.steps) in
       let same : run t (take k bs) ≡ run t bs =
       finished after d ∙ ap done ((ran (take k bs) t).same ∙ sym (ran bs t).same) ∙ sym (finished (run t bs) q) in
-      record { started = rw same at p.started; steps = omega (arith, after_rest, p.read, p.steps) }
+      record { holds = rw same at p.holds; steps = omega (arith, after_rest, p.read, p.steps) }

@@ -1,7 +1,8 @@
 -- A position whose own step is the next: what the step asks, from a fit state, and that the step made there is the rules' own.
-use Prim.Native.Nat.{ℕ, zero, suc, ◌+◌, ◌*◌, ◌≤◌, ◌<◌}
+use Prim.Native.Nat.{ℕ, zero, suc, ◌+◌, ◌≤◌, ◌<◌}
 use native.Mathlib.Omega.{arith}
 use mathlib.Core.Path.{◌≡◌, refl, sym, ap, ◌∙◌}
+use mathlib.Core.Bool.{true, false≢true}
 use mathlib.Core.Logic.{inl}
 use mathlib.Core.List.{List, [], ◌∷◌}
 use lib.ListN.{length, get_or}
@@ -20,7 +21,9 @@ use Rattle.links.specs.Nets.{right, fill, plug, times, Prime, rests, single, dou
 use Rattle.links.proofs.Times.{same_self}
 use Rattle.links.proofs.Local.{Own, enters, takes, lacks_it, joins}
 use Rattle.area.specs.declared.headers.Header.{Header}
-use Rattle.area.specs.Words.{positions, head_words, row_words, area_words, header_at, free_list}
+use Rattle.area.specs.declared.headers.Phase.TheVariants.{Placed as placed_phase, Waiting as waiting_phase, Negated as negated_phase}
+use Rattle.area.specs.declared.lists.Ready.{Ready}
+use Rattle.area.specs.Words.{positions, row_words, word_of, is_above, header_at, free_list}
 use Rattle.steps.specs.State.{showing, Once, set_at, Turned, joining, lacking, part_at, spot_at, Entering}
 use Rattle.steps.proofs.Changes.{below_small}
 use Rattle.machine.specs.Steps.{code_at, Placed, Stepping, Entered, Stepped}
@@ -114,7 +117,6 @@ pub record Near (s w : List ℕ) (n up : ℕ) (x : Net) : Type 0 where
   pub next : Fit s (move 0 (bare x))
   pub room : live (move 0 (bare x)) ≤ length (foot x) + n
   pub readable : Readable s
-  pub area : area_words ≤ length w
 
 -- a set of the area, by its header's count
 slim_at : (w : List ℕ) (i : ℕ) (y : Packets) → set_at w i ≡ y → Slim y → ((header_at w i).count ≤ 16) × Ascending (set_at w i)
@@ -131,7 +133,6 @@ can_step {s} {w} {n} (rests {i = i} {o = o} {p = p} {s = y}) k =
     let l : i < positions = below_small i (omega (arith, k.once i, same_self i)) in
     record {
       there = l;
-      area = k.area;
       enters = λ _. record {
         entering = record {
           stands = st;
@@ -143,16 +144,15 @@ can_step {s} {w} {n} (rests {i = i} {o = o} {p = p} {s = y}) k =
           room = rw (z.2, z.3) (omega (arith, k.room, enter_live p o (spot_at w i 0) y));
           slim = m.0;
           rises = m.1;
-          area = k.area;
         };
         acts = (acts s (header_at w i).place o y st (rw z.2 f.1)).0;
         single = (acts s (header_at w i).place o y st (rw z.2 f.1)).1;
         readable = k.readable;
       };
-      goes = λ g. omega (arith, z.0);
-      takes = λ g. absurd (omega (arith, z.0));
-      lacks = λ g. absurd (omega (arith, z.0));
-      joins = λ g b. absurd (omega (arith, z.0));
+      goes = λ g. omega (arith, ap word_of (sym z.0 ∙ g));
+      takes = λ g. absurd (omega (arith, ap word_of (sym z.0 ∙ g)));
+      lacks = λ g. absurd (omega (arith, ap word_of (sym z.0 ∙ g)));
+      joins = λ g. absurd (false≢true (rw z.0 at g));
     }
 can_step {s} {w} {n} (single {i = i} {k = c} {h = waits o q} {s = y}) k =
     let z = waits_shown k.held.0 in
@@ -161,9 +161,8 @@ can_step {s} {w} {n} (single {i = i} {k = c} {h = waits o q} {s = y}) k =
     let m = slim_at w c y d.1 f.0 in
     record {
       there = below_small i (omega (arith, k.once i, same_self i));
-      area = k.area;
-      enters = λ g. absurd (omega (arith, z.0));
-      goes = λ g. omega (arith, z.0);
+      enters = λ g. absurd (omega (arith, ap word_of (sym z.0 ∙ g)));
+      goes = λ g. omega (arith, ap word_of (sym z.0 ∙ g));
       takes = λ g. rw z.3 (record {
         stands = rw z.1 f.1.1;
         short = k.readable.short;
@@ -172,10 +171,9 @@ can_step {s} {w} {n} (single {i = i} {k = c} {h = waits o q} {s = y}) k =
         few = omega (arith, k.few);
         room = rw (z.2, d.1) (omega (arith, k.room, place_live q o (spot_at w i 0) y));
         slim = m.0;
-        area = k.area;
       });
-      lacks = λ g. absurd (omega (arith, z.0));
-      joins = λ g b. absurd (omega (arith, z.0));
+      lacks = λ g. absurd (omega (arith, ap word_of (sym z.0 ∙ g)));
+      joins = λ g. absurd (false≢true (rw z.0 at g));
     }
 can_step {s} {w} {n} (single {i = i} {k = c} {h = keeps r} {s = y}) k =
     let z = keeps_shown k.held.0 in
@@ -185,10 +183,9 @@ can_step {s} {w} {n} (single {i = i} {k = c} {h = keeps r} {s = y}) k =
     let m' = slim_at w c y d.1 f.1 in
     record {
       there = below_small i (omega (arith, k.once i, same_self i));
-      area = k.area;
-      enters = λ g. absurd (omega (arith, z.0));
-      goes = λ g. omega (arith, z.0);
-      takes = λ g. absurd (omega (arith, z.0));
+      enters = λ g. absurd (omega (arith, ap word_of (sym z.0 ∙ g)));
+      goes = λ g. omega (arith, ap word_of (sym z.0 ∙ g));
+      takes = λ g. absurd (omega (arith, ap word_of (sym z.0 ∙ g)));
       lacks = λ g. rw z.2 (record {
         below = z.2;
         once = k.once;
@@ -197,9 +194,8 @@ can_step {s} {w} {n} (single {i = i} {k = c} {h = keeps r} {s = y}) k =
         slim_below = m'.0;
         rises_own = m.1;
         rises_below = m'.1;
-        area = k.area;
       });
-      joins = λ g b. absurd (omega (arith, z.0));
+      joins = λ g. absurd (false≢true (rw z.0 at g));
     }
 can_step {s} {w} {n} (double {i = i} {k = a} {l = b} {j = j} {s = y} {t = u}) k =
     let z = two_shown k.held.0 in
@@ -210,14 +206,11 @@ can_step {s} {w} {n} (double {i = i} {k = a} {l = b} {j = j} {s = y} {t = u}) k 
     let m' = slim_at w b u e.1 f.1 in
     record {
       there = below_small i (omega (arith, k.once i, same_self i));
-      area = k.area;
-      enters = λ g. absurd (omega (arith, z.0));
-      goes = λ g. omega (arith, z.0);
-      takes = λ g. absurd (omega (arith, z.0));
-      lacks = λ g. absurd (omega (arith, z.0));
-      joins = λ g near. rw (z.2, z.3) (record {
-        phase = z.0;
-        near = near;
+      enters = λ g. absurd (false≢true (rw g at z.0));
+      goes = λ g. false≢true (rw g at z.0);
+      takes = λ g. absurd (false≢true (rw g at z.0));
+      lacks = λ g. absurd (false≢true (rw g at z.0));
+      joins = λ g. rw (z.2, z.3) (record {
         first = z.2;
         second = z.3;
         once = k.once;
@@ -227,99 +220,83 @@ can_step {s} {w} {n} (double {i = i} {k = a} {l = b} {j = j} {s = y} {t = u}) k 
         rises_first = m.1;
         rises_second = m'.1;
         slim = rw (z.1, d.1, e.1) k.next.0;
-        area = k.area;
       });
     }
 
 -- ---- the step that the phase tells is the own step of whatever stands there
 
-abbrev Steps : (s w v : List ℕ) (n m a q : ℕ) → Net → Type 0
-Steps s w v n m a q x = Turned s w v n m (foot x) (header_at w (root x)).up (root x) (move 0 (bare x)) a q
+abbrev Steps : (s w v : List ℕ) (n m : ℕ) (r : Ready) → Net → Type 0
+Steps s w v n m r x = Turned s w v n m (foot x) (header_at w (root x)).up (root x) (move 0 (bare x)) r
 
-module _ {s w v : List ℕ} {n m a q : ℕ} where
-  entered_at : {x : Net} → Prime x → AllShow (showing s w) (header_at w (root x)).up x → (header_at w (root x)).phase ≡ 0
-      → Entered s w v n m (root x) a q → Steps s w v n m a q x
+module _ {s w v : List ℕ} {n m : ℕ} {r : Ready} where
+  entered_at : {x : Net} → Prime x → AllShow (showing s w) (header_at w (root x)).up x → (header_at w (root x)).phase ≡ placed_phase
+      → Entered s w v n m (root x) r → Steps s w v n m r x
   unfolding AllShow root foot bare above node_of move next
   entered_at (rests {i = i} {o = o} {p = p} {s = y}) h e T = let z = rest_shown h in rw (z.2, z.3, z.1) at (T o.fields)
-  entered_at (single {h = waits o p}) h e T = let z = waits_shown h.0 in absurd (omega (arith, z.0))
-  entered_at (single {h = keeps k}) h e T = let z = keeps_shown h.0 in absurd (omega (arith, z.0))
-  entered_at double h e T = let z = two_shown h.0 in absurd (omega (arith, z.0))
+  entered_at (single {h = waits o p}) h e T = let z = waits_shown h.0 in absurd (omega (arith, ap word_of (sym z.0 ∙ e)))
+  entered_at (single {h = keeps k}) h e T = let z = keeps_shown h.0 in absurd (omega (arith, ap word_of (sym z.0 ∙ e)))
+  entered_at double h e T = let z = two_shown h.0 in absurd (false≢true (rw e at z.0))
 
-  pub entered_steps : {i : ℕ} → (header_at w i).phase ≡ 0 → Entered s w v n m i a q → Stepped s w v n m i a q
+  pub entered_steps : {i : ℕ} → (header_at w i).phase ≡ placed_phase → Entered s w v n m i r → Stepped s w v n m i r
   unfolding Stepped
   entered_steps e T x p r h = rw (← r) (entered_at p (rw (← r) at h) (rw (← r) at e) (rw (← r) at T))
 
-  taken_at : {x : Net} → Prime x → AllShow (showing s w) (header_at w (root x)).up x → (header_at w (root x)).phase ≡ 2
+  taken_at : {x : Net} → Prime x → AllShow (showing s w) (header_at w (root x)).up x → (header_at w (root x)).phase ≡ waiting_phase
       → ((f : ℕ) → Turned s w v n m (root x ∷ (header_at w (root x)).left ∷ []) (header_at w (root x)).up (root x)
-      (place (spot_at w (root x) f) (part_at s w (root x)) (set_at w (header_at w (root x)).left)) a q) → Steps s w v n m a q x
+      (place (spot_at w (root x) f) (part_at s w (root x)) (set_at w (header_at w (root x)).left)) r) → Steps s w v n m r x
   unfolding AllShow root foot bare above node_of move next finish
-  taken_at rests h e T = let z = rest_shown h in absurd (omega (arith, z.0))
+  taken_at rests h e T = let z = rest_shown h in absurd (omega (arith, ap word_of (sym z.0 ∙ e)))
   taken_at (single {h = waits o p}) h e T =
       let z = waits_shown h.0 in
       let d = over_shown h.1 in
       rw (z.2, z.3, d.1, z.1) at (T o.fields)
-  taken_at (single {h = keeps k}) h e T = let z = keeps_shown h.0 in absurd (omega (arith, z.0))
-  taken_at double h e T = let z = two_shown h.0 in absurd (omega (arith, z.0))
+  taken_at (single {h = keeps k}) h e T = let z = keeps_shown h.0 in absurd (omega (arith, ap word_of (sym z.0 ∙ e)))
+  taken_at double h e T = let z = two_shown h.0 in absurd (false≢true (rw e at z.0))
 
-  pub taken_steps : {i : ℕ} → (header_at w i).phase ≡ 2
+  pub taken_steps : {i : ℕ} → (header_at w i).phase ≡ waiting_phase
       → ((f : ℕ) → Turned s w v n m (i ∷ (header_at w i).left ∷ []) (header_at w i).up i
-      (place (spot_at w i f) (part_at s w i) (set_at w (header_at w i).left)) a q) → Stepped s w v n m i a q
+      (place (spot_at w i f) (part_at s w i) (set_at w (header_at w i).left)) r) → Stepped s w v n m i r
   unfolding Stepped
   taken_steps e T x p r h = rw (← r) (taken_at p (rw (← r) at h) (rw (← r) at e) (rw (← r) at T))
 
-  lacked_at : {x : Net} → Prime x → AllShow (showing s w) (header_at w (root x)).up x → (header_at w (root x)).phase ≡ 3
+  lacked_at : {x : Net} → Prime x → AllShow (showing s w) (header_at w (root x)).up x → (header_at w (root x)).phase ≡ negated_phase
       → Turned s w v n m (root x ∷ (header_at w (root x)).left ∷ []) (header_at w (root x)).up (root x)
-      (done (lacking w (root x) (header_at w (root x)).left)) a q → Steps s w v n m a q x
+      (done (lacking w (root x) (header_at w (root x)).left)) r → Steps s w v n m r x
   unfolding AllShow root foot bare above node_of move next finish
-  lacked_at rests h e T = let z = rest_shown h in absurd (omega (arith, z.0))
-  lacked_at (single {h = waits o p}) h e T = let z = waits_shown h.0 in absurd (omega (arith, z.0))
+  lacked_at rests h e T = let z = rest_shown h in absurd (omega (arith, ap word_of (sym z.0 ∙ e)))
+  lacked_at (single {h = waits o p}) h e T = let z = waits_shown h.0 in absurd (omega (arith, ap word_of (sym z.0 ∙ e)))
   lacked_at (single {h = keeps k}) h e T =
       let z = keeps_shown h.0 in
       let d = over_shown h.1 in
       rw (z.1, z.2, d.1) at T
-  lacked_at double h e T = let z = two_shown h.0 in absurd (omega (arith, z.0))
+  lacked_at double h e T = let z = two_shown h.0 in absurd (false≢true (rw e at z.0))
 
-  pub lacked_steps : {i : ℕ} → (header_at w i).phase ≡ 3
-      → Turned s w v n m (i ∷ (header_at w i).left ∷ []) (header_at w i).up i (done (lacking w i (header_at w i).left)) a q
-      → Stepped s w v n m i a q
+  pub lacked_steps : {i : ℕ} → (header_at w i).phase ≡ negated_phase
+      → Turned s w v n m (i ∷ (header_at w i).left ∷ []) (header_at w i).up i (done (lacking w i (header_at w i).left)) r
+      → Stepped s w v n m i r
   unfolding Stepped
   lacked_steps e T x p r h = rw (← r) (lacked_at p (rw (← r) at h) (rw (← r) at e) (rw (← r) at T))
 
-  joined_at : {x : Net} → Prime x → AllShow (showing s w) (header_at w (root x)).up x → 4 ≤ (header_at w (root x)).phase
+  joined_at : {x : Net} → Prime x → AllShow (showing s w) (header_at w (root x)).up x → is_above (header_at w (root x)).phase ≡ true
       → Turned s w v n m (root x ∷ (header_at w (root x)).left ∷ (header_at w (root x)).right ∷ []) (header_at w (root x)).up (root x)
-      (done (joining s w (root x) (header_at w (root x)).left (header_at w (root x)).right)) a q → Steps s w v n m a q x
+      (done (joining s w (root x) (header_at w (root x)).left (header_at w (root x)).right)) r → Steps s w v n m r x
   unfolding AllShow root foot bare above node_of move next finish leave
-  joined_at rests h e T = let z = rest_shown h in absurd (omega (arith, z.0))
-  joined_at (single {h = waits o p}) h e T = let z = waits_shown h.0 in absurd (omega (arith, z.0))
-  joined_at (single {h = keeps k}) h e T = let z = keeps_shown h.0 in absurd (omega (arith, z.0))
+  joined_at rests h e T = let z = rest_shown h in absurd (false≢true (rw z.0 at e))
+  joined_at (single {h = waits o p}) h e T = let z = waits_shown h.0 in absurd (false≢true (rw z.0 at e))
+  joined_at (single {h = keeps k}) h e T = let z = keeps_shown h.0 in absurd (false≢true (rw z.0 at e))
   joined_at double h e T =
       let z = two_shown h.0 in
       let d = over_shown h.1 in
       let g = over_shown h.2 in
       rw (z.1, z.2, z.3, d.1, g.1) at T
 
-  pub joined_steps : {i : ℕ} → 4 ≤ (header_at w i).phase
+  pub joined_steps : {i : ℕ} → is_above (header_at w i).phase ≡ true
       → Turned s w v n m (i ∷ (header_at w i).left ∷ (header_at w i).right ∷ []) (header_at w i).up i
-      (done (joining s w i (header_at w i).left (header_at w i).right)) a q → Stepped s w v n m i a q
+      (done (joining s w i (header_at w i).left (header_at w i).right)) r → Stepped s w v n m i r
   unfolding Stepped
   joined_steps e T x p r h = rw (← r) (joined_at p (rw (← r) at h) (rw (← r) at e) (rw (← r) at T))
 
 -- ---- what the dispatcher reads
-
-pub near_word : (w : List ℕ) (i : ℕ) → get_or w (i * head_words) 0 < 65536 → (header_at w i).place < 65536
-unfolding header_at
-near_word w i h = h
-
-pub high : (w : List ℕ) (i : ℕ) {h : Header} → h ≡ header_at w i → ((header_at w i).phase ≡ 1 → ⊥) → (h.phase ≡ 0 → ⊥) → (h.phase ≡ 2 → ⊥)
-    → (h.phase ≡ 3 → ⊥) → 4 ≤ (header_at w i).phase
-high w i e a b c d = go (header_at w i).phase a (rw e at b) (rw e at c) (rw e at d)
-  where
-    go : (k : ℕ) → (k ≡ 1 → ⊥) → (k ≡ 0 → ⊥) → (k ≡ 2 → ⊥) → (k ≡ 3 → ⊥) → 4 ≤ k
-    go zero a b c d = absurd (b refl)
-    go (suc zero) a b c d = absurd (a refl)
-    go (suc (suc zero)) a b c d = absurd (c refl)
-    go (suc (suc (suc zero))) a b c d = absurd (d refl)
-    go (suc (suc (suc (suc k)))) a b c d = omega arith
 
 pub code_read : {s w : List ℕ} {n i : ℕ} {h : Header} {o : Head} → Placed s w n i → h ≡ header_at w i → o ≡ reading.head_at s h.place
     → o.code ≡ code_at s w i

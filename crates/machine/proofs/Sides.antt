@@ -2,10 +2,7 @@
 use Prim.Native.Nat.{ℕ, zero, suc, ◌+◌, ◌-◌, ◌≤◌, ◌<◌}
 use native.Mathlib.Omega.{arith}
 use mathlib.Core.Path.{◌≡◌, refl, sym, ap, ◌∙◌}
-use mathlib.Core.Bool.{cond}
 use mathlib.Core.List.{List, [], ◌∷◌, ◌++◌}
-use lib.Dec.{eqb}
-use borrow.Author.Tests.{ne_eqb}
 use lib.ListN.{length, take, drop, get_or, length-drop}
 use Rattle.rules.specs.declared.Head.{Head}
 use Rattle.rules.specs.Masks.{less}
@@ -21,11 +18,14 @@ use Rattle.rows.proofs.Chunks.{length_chunks}
 use Rattle.links.specs.Nets.{rest, bare, root, foot, is_over, ready_of, AllShow, same, times}
 use Rattle.links.proofs.Times.{same_self, same_other, times_append, live_foot}
 use Rattle.area.specs.declared.headers.Header.{Header}
-use Rattle.area.specs.Words.{positions, row_words, nobody, placed_phase, split_phase, paired_phase, header_at, finished_head, slot_at, rows_at}
+use Rattle.std.specs.Prelude.{Option, Some}
+use Rattle.area.specs.declared.headers.Phase.TheVariants.{Placed, Split, Paired}
+use Rattle.area.specs.declared.lists.Ready.TheVariants.{Nobody, Pair}
+use Rattle.area.specs.Words.{positions, row_words, header_at, finished_head, slot_at, rows_at}
 use Rattle.area.specs.Words.{packet_at, free_list, Headed, Slotted, Rowed}
 use Rattle.area.proofs.Lending.{emptied}
 use Rattle.steps.specs.Standing.{part_of, join_of, Marked}
-use Rattle.steps.specs.State.{shown_by, Spares, Becomes, Makes, Offers, offers, Laying, Laid, entering, Turned, Entering}
+use Rattle.steps.specs.State.{two_ready, shown_by, Spares, Becomes, Makes, Offers, offers, Laying, Laid, entering, Turned, Entering}
 use Rattle.steps.proofs.Standing.{inside, beside_below}
 use Rattle.steps.proofs.Changes.{becomes, below_one, below_small, times_one, slotted_slots, slotted_spares, slotted_free, slotted_ready}
 use Rattle.steps.proofs.Changes.{spares_then, spares_wider, in_none}
@@ -43,8 +43,8 @@ side_put i e r = rw (← e) (record { here = r.here; out = r.out })
 -- ---- a part placed as it is
 
 pub rest_made : (s w v : List ℕ) (n i up at c f : ℕ) (x : Packets) → i < positions → n ≤ positions → c ≡ length x
-    → Becomes w v i (record { place = at; phase = placed_phase; count = c; up = up; left = 0; right = 0 }) x
-    → (M : Makes s w v n n (i ∷ []) up i (placed (record { at = at; fields = f }) (part_of s at) x)) × Offers M.net i
+    → Becomes w v i (record { place = at; phase = Placed; count = c; up = up; left = 0; right = 0 }) x
+    → (M : Makes s w v n n (i ∷ []) up i (placed (record { at = at; fields = f }) (part_of s at) x)) × Offers M.net (Some i)
 unfolding bare root AllShow foot is_over ready_of shown_by
 rest_made s w v n i up at c f x li l ec b = (
   record {
@@ -57,7 +57,7 @@ rest_made s w v n i up at c f x li l ec b = (
     else = spares_wider ((i ∷ []) ++ free_list w n) (λ k z. (in_none k (i ∷ []) (free_list w n) z).0) b.spares;
     ready = b.ready;
   },
-  offers refl refl li,
+  offers i refl refl li refl,
 )
 
 -- ---- what is entered
@@ -127,7 +127,7 @@ module _ {s w : List ℕ} {n i : ℕ} (h : Entering s w n i 7) where
 
   -- ---- no packet
 
-  pub none_entered : {v : List ℕ} → count ≡ 0 → Headed w v i (finished_head (header_at w i).up 0) → Entered s w v n n i nobody nobody
+  pub none_entered : {v : List ℕ} → count ≡ 0 → Headed w v i (finished_head (header_at w i).up 0) → Entered s w v n n i Nobody
   unfolding enter chunks
   none_entered {v} z H f =
       let e : entering s w i f ≡ done [] = entering_is f (done []) (rw z refl) in
@@ -209,10 +209,6 @@ module _ {s w : List ℕ} {n i : ℕ} (h : Entering s w n i 7) where
     first_own e =
         omega (arith, h.once i, free_both i, below_one i, times_one i i, same_self i, times_one i l, ap (same i) (sym e))
 
-    pub second_own : i ≡ r → ⊥
-    second_own e =
-        omega (arith, h.once i, free_both i, below_one i, times_one i i, same_self i, times_one i r, ap (same i) (sym e))
-
     two_apart : l ≡ r → ⊥
     two_apart e = omega (arith, h.once l, free_both l, below_one l, times_one l l, same_self l, times_one l r, ap (same l) (sym e))
 
@@ -230,9 +226,6 @@ module _ {s w : List ℕ} {n i : ℕ} (h : Entering s w n i 7) where
       set_second =
           p₂.here ∙ ap (λ (y : List ℕ). without wp (get_or (rows_of row_words y) 0 []) ∷ []) (slotted_slots first_small p₁ i first_own)
 
-      long : length v₂ ≡ length w
-      long = p₂.out.long ∙ p₁.out.long
-
       pub first_lays : Laying s v₂ (n - 2) l (pl + 3) l 1
       first_lays = record {
         stands = (beside_below h.stands h.reads).1.left;
@@ -243,10 +236,9 @@ module _ {s w : List ℕ} {n i : ℕ} (h : Entering s w n i 7) where
         room = rw set_first (omega (arith, sides_live one, some, live_some (sideQ one 0)));
         source = first_small;
         slim = omega arith;
-        area = omega (arith, h.area, long);
       }
 
-      module _ (v₃ : List ℕ) (m a : ℕ) (L : (f : ℕ) → Laid s v₂ v₃ (n - 2) m l i (pl + 3) l 1 a f) where
+      module _ (v₃ : List ℕ) (m : ℕ) (a : Option ℕ) (L : (f : ℕ) → Laid s v₂ v₃ (n - 2) m l i (pl + 3) l 1 a f) where
         second_apart : times r ((l ∷ []) ++ free_list v₂ (n - 2)) ≡ 0
         second_apart =
             omega (
@@ -280,22 +272,21 @@ module _ {s w : List ℕ} {n i : ℕ} (h : Entering s w n i 7) where
           ));
           source = second_small;
           slim = omega arith;
-          area = omega (arith, h.area, long, (L 0).makes.else.long);
         }
 
-        pub sides_entered : (v₄ v₅ : List ℕ) (m' b z y : ℕ) → ((f : ℕ) → Laid s v₃ v₄ m m' r i q r 1 b f)
-            → Headed v₄ v₅ i (record { place = pl; phase = paired_phase; count = 0; up = (header_at w i).up; left = l; right = r })
-            → z ≡ cond (eqb a nobody) (cond (eqb b nobody) i b) a → y ≡ cond (eqb a nobody) nobody b → Entered s w v₅ n m' i z y
+        pub sides_entered : (v₄ v₅ : List ℕ) (m' : ℕ) (b : Option ℕ) → ((f : ℕ) → Laid s v₃ v₄ m m' r i q r 1 b f)
+            → Headed v₄ v₅ i (record { place = pl; phase = Paired; count = 0; up = (header_at w i).up; left = l; right = r })
+            → Entered s w v₅ n m' i (two_ready i a b)
         unfolding join_of rebase times
-        sides_entered v₄ v₅ m' b z y R H ez ey f =
+        sides_entered v₄ v₅ m' b R H f =
             let k₀ = free_kept n h.few in
             let k₁ = free_kept (n - 1) (omega (arith, h.few)) in
             let k₂ = free_kept (n - 2) (omega (arith, h.few)) in
             let T = two_turned h.there some (rw k₀ h.once) (rw (k₀, k₁) top) (rw (k₁, k₂) next) (L (less f wq)).makes
-            (R (less f wp)).makes H (omega arith) refl refl a b z y (L (less f wq)).offer (R (less f wp)).offer ez ey in
+            (R (less f wp)).makes H refl refl refl a b (L (less f wq)).offer (R (less f wp)).offer in
             let S : Spares w v₂ (l ∷ r ∷ []) =
             spares_then (l ∷ r ∷ []) (λ k g. (omega arith, omega arith)) (slotted_spares first_small p₁) (slotted_spares second_small p₂) in
-            let U : Turned s w v₅ n m' (i ∷ []) (header_at w i).up i _ z y = record {
+            let U : Turned s w v₅ n m' (i ∷ []) (header_at w i).up i _ (two_ready i a b) = record {
               makes = rebase T.makes S (slotted_ready second_small p₂ ∙ slotted_ready first_small p₁) (λ k. rw k₀ refl) refl
                   (λ k g. omega (arith, free_both k, times_append k (i ∷ []) (free_list w n)));
               offer = T.offer;
@@ -305,24 +296,22 @@ module _ {s w : List ℕ} {n i : ℕ} (h : Entering s w n i 7) where
     -- ---- more packets: both placed at this same part
 
     module _ (many : 2 ≤ count) (v₁ v₂ v₃ v₄ : List ℕ)
-        (B : Becomes w v₁ l (record { place = pl; phase = placed_phase; count = 1; up = i; left = 0; right = 0 }) (rows_at w i 1))
+        (B : Becomes w v₁ l (record { place = pl; phase = Placed; count = 1; up = i; left = 0; right = 0 }) (rows_at w i 1))
         (C : Slotted v₁ v₂ r (drop 1 (rows_at v₁ i count)))
-        (D : Headed v₂ v₃ r (record { place = pl; phase = placed_phase; count = count - 1; up = i; left = 0; right = 0 }))
-        (H : Headed v₃ v₄ i (record { place = pl; phase = split_phase; count = 0; up = (header_at w i).up; left = l; right = r })) where
+        (D : Headed v₂ v₃ r (record { place = pl; phase = Placed; count = count - 1; up = i; left = 0; right = 0 }))
+        (H : Headed v₃ v₄ i (record { place = pl; phase = Split; count = 0; up = (header_at w i).up; left = l; right = r })) where
       own_kept : rows_at v₁ i count ≡ rows_at w i count
       own_kept = ap (chunks row_words count) (B.spares.slots i h.there (times_one i l ∙ same_other i l first_own))
 
       rest_length : count - 1 ≡ length (drop 1 (rows_at v₁ i count))
       rest_length = omega (arith, length-drop 1 (rows_at v₁ i count), length_chunks row_words count (slot_at v₁ i))
 
-      pub split_entered : Entered s w v₄ n (n - 2) i l r
+      pub split_entered : Entered s w v₄ n (n - 2) i (Pair l r)
       unfolding join_of
       split_entered f =
           let few : n - 2 ≤ positions = omega (arith, h.few) in
           let L = rest_made s w v₁ (n - 2) l i pl 1 f (rows_at w i 1) first_small few (sym (length_chunks row_words 1 (slot_at w i))) B in
           let R = rest_made s v₁ v₃ (n - 2) r i pl (count - 1) f (drop 1 (rows_at v₁ i count)) second_small few rest_length
           (becomes second_small C D) in
-          let ne = ne_eqb l nobody (λ e. omega (arith, first_small)) in
-          let T = two_turned h.there some h.once top next L.0 R.0 H (omega arith) refl refl l r l r L.1 R.1
-          (rw ne refl) (rw ne refl) in
+          let T = two_turned h.there some h.once top next L.0 R.0 H refl refl refl (Some l) (Some r) L.1 R.1 in
           rw (split_tree many f) (rw own_kept at T)

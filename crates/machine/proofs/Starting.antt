@@ -18,18 +18,18 @@ use Rattle.links.specs.Nets.{ready_of, plug, up_of, foot_in, AllShowIn, lefts, r
 use Rattle.links.proofs.Times.{same_self, same_other, times_append}
 use Rattle.links.proofs.Plugging.{held_kept}
 use Rattle.links.proofs.ReadyOnes.{ready_after, ready_few}
-use Rattle.area.specs.Words.{positions, ready_from, free_from, area_words, nobody, part, rows_at, free_list, Given, Rowed, Listed}
-use Rattle.area.specs.Ready.{news_at, Relisting}
-use Rattle.steps.specs.State.{below, Makes, Laying, Laid}
-use Rattle.area.proofs.Words.{part_out, past_out}
+use Rattle.std.specs.Prelude.{Option}
+use Rattle.area.specs.Words.{positions, ready_from, free_from, nobody, part, rows_at, free_list, Given, Rowed, Listed}
+use Rattle.area.specs.Ready.{ready_of as option_ready, numbers, news_at, Relisting}
+use Rattle.steps.specs.State.{below, Holds, Makes, Laying, Laid}
+use Rattle.area.proofs.Words.{part_out}
 use Rattle.steps.proofs.Changes.{below_small}
 use Rattle.steps.proofs.Making.{kept_by, one_offer}
 use Rattle.steps.proofs.News.{news_is, offer_small}
 use Rattle.steps.proofs.Rising.{listed_spares, listed_free}
-use Rattle.machine.specs.Runs.{Playable, Started}
+use Rattle.machine.specs.Runs.{Playable}
 use Rattle.machine.specs.Answered.{Freed}
 use Rattle.machine.proofs.Positions.{place_live}
-use Rattle.machine.proofs.Playing.{beyond_then}
 
 -- ---- the numbers but 0 are free
 
@@ -37,11 +37,11 @@ below_is : (k : ℕ) → k < positions → below k ≡ 1
 unfolding below
 below_is k h = rw (lt-ltb k positions h)
 
-pub freeing_starts : (w : List ℕ) → Freed w w 0
+pub freeing_starts : (w : List ℕ) → Freed w 0
 unfolding part times
-freeing_starts w = record { once = λ k. omega arith; high = λ k h. refl; beyond = record { past = refl; long = refl } }
+freeing_starts w = record { once = λ k. omega arith; high = λ k h. refl }
 
-module _ (w v u : List ℕ) (n : ℕ) (l : n < (positions - 1)) (f : Freed w v n) (g : Given v u n (positions - 1 - n)) where
+module _ (v u : List ℕ) (n : ℕ) (l : n < (positions - 1)) (f : Freed v n) (g : Given v u n (positions - 1 - n)) where
   given_times : (k : ℕ) → times k (free_list u (n + 1)) ≡ times k (free_list v n) + same k (positions - 1 - n)
   unfolding times
   given_times k = ap (times k) g.here ∙ times_append k (free_list v n) ((positions - 1 - n) ∷ []) ∙ omega arith
@@ -63,20 +63,16 @@ module _ (w v u : List ℕ) (n : ℕ) (l : n < (positions - 1)) (f : Freed w v n
             ]
       ]
 
-  pub freeing_turns : Freed w u (n + 1)
+  pub freeing_turns : Freed u (n + 1)
   freeing_turns = record {
     once = once;
     high = λ k h. lower k (omega arith);
-    beyond = beyond_then f.beyond (record { past = past_out g.out area_words (omega arith); long = g.out.long });
   }
-
-pub freed_all : {w v : List ℕ} {n : ℕ} → n ≡ (positions - 1) → Freed w v n → Freed w v (positions - 1)
-freed_all e f = rw e at f
 
 -- ---- the main policy is placed at number 0
 
-module _ (s packet w v₁ v₂ : List ℕ) (b : Readable s) (st : Runnable s (body_start s 0)) (pl : Playable s (start s packet))
-    (area : area_words ≤ length w) (F : Freed w v₁ (positions - 1)) (R : Rowed v₁ v₂ 0 0 (padded packet)) where
+module _ (s packet v₁ v₂ : List ℕ) (b : Readable s) (st : Runnable s (body_start s 0)) (pl : Playable s (start s packet))
+    (F : Freed v₁ (positions - 1)) (R : Rowed v₁ v₂ 0 0 (padded packet)) where
   rows_there : rows_at v₂ 0 1 ≡ start_set packet
   unfolding chunks
   rows_there = R.here
@@ -106,24 +102,23 @@ module _ (s packet w v₁ v₂ : List ℕ) (b : Readable s) (st : Runnable s (bo
         (omega (arith, (pl []).1, place_live (main_of s) (record { at = body_start s 0; fields = 0 }) (start_spot s) (start_set packet)));
     source = omega arith;
     slim = omega arith;
-    area = omega (arith, area, F.beyond.long, R.out.long);
   }
 
-  module _ (v₃ : List ℕ) (m r : ℕ) (L : (f : ℕ) → Laid s v₂ v₃ (positions - 1) m 0 nobody (body_start s 0) 0 1 r f) where
+  module _ (v₃ : List ℕ) (m : ℕ) (r : Option ℕ) (L : (f : ℕ) → Laid s v₂ v₃ (positions - 1) m 0 nobody (body_start s 0) 0 1 r f) where
     abbrev M : Makes s v₂ v₃ (positions - 1) m (0 ∷ []) nobody 0 (place (start_spot s) (part_of s (body_start s 0)) (rows_at v₂ 0 1))
     M = (L (all_fields (fields_of s))).makes
 
     -- the ready numbers of the start
-    news_are : news_at v₃ nobody r nobody ≡ ready_of M.net
+    news_are : numbers (news_at v₃ nobody (option_ready r)) ≡ ready_of M.net
     unfolding AllShowIn up_of plug lefts rights foot_in times
     news_are =
-        news_is s v₃ [] M.net r nobody (one_offer (L (all_fields (fields_of s))).offer) M.held tt (λ k h. absurd (omega arith))
+        news_is s v₃ [] M.net (option_ready r) (one_offer (L (all_fields (fields_of s))).offer) M.held tt (λ k h. absurd (omega arith))
         ∙ sym (ready_after [] M.net ∙ append-nil (news [] M.net))
 
-    few : length (news_at v₃ nobody r nobody) ≤ positions
+    few : length (numbers (news_at v₃ nobody (option_ready r))) ≤ positions
     few = rw news_are (omega (arith, ready_few M.net, M.size))
 
-    pub start_relists : Relisting v₃ 1 0 nobody r nobody
+    pub start_relists : Relisting v₃ 1 0 nobody (option_ready r)
     start_relists = record {
       there = omega arith;
       few = omega arith;
@@ -131,33 +126,24 @@ module _ (s packet w v₁ v₂ : List ℕ) (b : Readable s) (st : Runnable s (bo
       above = record {
         small = omega arith;
         below = λ l. absurd (omega arith);
-        area = omega (arith, area, F.beyond.long, R.out.long, M.else.long);
       };
-      first = (offer_small (one_offer (L (all_fields (fields_of s))).offer)).0;
-      second = omega arith;
+      offers = offer_small (one_offer (L (all_fields (fields_of s))).offer);
     }
 
-    pub started : (u : List ℕ) (k : ℕ) → Listed v₃ u 1 0 (news_at v₃ nobody r nobody) → k ≡ 1 - 1 + length (news_at v₃ nobody r nobody)
-        → Started s w u m k (start s packet)
+    pub started : (u : List ℕ) (k : ℕ) → Listed v₃ u 1 0 (numbers (news_at v₃ nobody (option_ready r)))
+        → k ≡ 1 - 1 + length (numbers (news_at v₃ nobody (option_ready r))) → Holds s u m k (start s packet)
     unfolding part start times
     started u k N ek =
         let d : drop 1 (take 1 (drop ready_from v₃)) ≡ [] =
         drop_of_length-le (take 1 (drop ready_from v₃)) {i = 1} (omega (arith, length-take 1 (drop ready_from v₃))) in
         record {
-          holds = record {
-            net = M.net;
-            bare = M.bare ∙ main_is (all_fields (fields_of s));
-            root = M.root;
-            held = held_kept nobody M.net
-                (kept_by (listed_spares N) (λ k h. (refl, below_small k (omega (arith, M.count k, once_root k))))) M.held;
-            once = λ k. omega (arith, M.count k, once_root k, ap (times k) (listed_free N m));
-            size = omega (arith, M.size);
-            ready = rw ek (N.here ∙ rw d (append-nil (news_at v₃ nobody r nobody) ∙ news_are));
-            few = omega (arith, few);
-            area = omega (arith, area, F.beyond.long, R.out.long, M.else.long, N.out.long);
-          };
-          beyond = record {
-            past = past_out N.out area_words (omega arith) ∙ M.else.past ∙ past_out R.out area_words (omega arith) ∙ F.beyond.past;
-            long = N.out.long ∙ M.else.long ∙ R.out.long ∙ F.beyond.long;
-          };
+          net = M.net;
+          bare = M.bare ∙ main_is (all_fields (fields_of s));
+          root = M.root;
+          held = held_kept nobody M.net
+              (kept_by (listed_spares N) (λ k h. (refl, below_small k (omega (arith, M.count k, once_root k))))) M.held;
+          once = λ k. omega (arith, M.count k, once_root k, ap (times k) (listed_free N m));
+          size = omega (arith, M.size);
+          ready = rw ek (N.here ∙ rw d (append-nil (numbers (news_at v₃ nobody (option_ready r))) ∙ news_are));
+          few = omega (arith, few);
         }

@@ -9,7 +9,6 @@ use Rattle.rules.specs.Promises.{Granted}
 use Rattle.links.specs.Nets.{times}
 use Rattle.area.specs.Words.{positions, free_list}
 use Rattle.steps.specs.State.{below}
-use Rattle.machine.specs.Runs.{Beyond}
 
 -- past 1 to 10, and the room that a run needs
 pub record Weighed (book packet result work : List ℕ) (needs : ℕ) : Type 0 where
@@ -23,7 +22,6 @@ abbrev pub words_of : List ℕ → List ℕ → List ℕ → List ℕ
 words_of book packet schedule = values_of (fields_of book) (final_of (finish (run (start book packet) schedule)))
 
 -- the n highest numbers are free, each once
-pub record Freed (w v : List ℕ) (n : ℕ) : Type 0 where
+pub record Freed (v : List ℕ) (n : ℕ) : Type 0 where
   pub once : (k : ℕ) → times k (free_list v n) ≤ below k
   pub high : (k : ℕ) → k + n < positions → times k (free_list v n) ≡ 0
-  pub beyond : Beyond w v

@@ -4,7 +4,7 @@ use Rattle.rules.specs.Packets.{Packets, Ascending, most_packets}
 use Rattle.rules.specs.Parts.{Part}
 use Rattle.rules.specs.States.{Spot, Tree, placed, done, waiting, negated, both, place, live, move, run, made}
 use Rattle.steps.specs.Standing.{part_of, Runnable, Readable}
-use Rattle.area.specs.Words.{positions, past_area}
+use Rattle.area.specs.Words.{positions}
 use Rattle.steps.specs.State.{Holds}
 
 -- a set of at most 16 packets, ascending
@@ -34,26 +34,11 @@ pub record Advancing (s w : List ℕ) (n r : ℕ) : Type 0 where
   pub holds : Holds s w n r tree
   pub playable : Playable s tree
 
--- v is w but for the area
-pub record Beyond (w v : List ℕ) : Type 0 where
-  pub past : past_area v ≡ past_area w
-  pub long : length v ≡ length w
-
 -- whatever state they held, they hold what the rules make of it by the choice b
 pub record Advanced (s w v : List ℕ) (n r m q b : ℕ) : Type 0 where
   pub moved : (t : Tree) → Holds s w n r t → Holds s v m q (move b t)
-  pub beyond : Beyond w v
-
--- they hold the state t, and nothing past the area is changed
-pub record Started (s w v : List ℕ) (n r : ℕ) (t : Tree) : Type 0 where
-  pub holds : Holds s v n r t
-  pub beyond : Beyond w v
 
 -- they hold the state after the run, and so many steps were made
-pub record Played (s w v : List ℕ) (n r k : ℕ) (t : Tree) (bs : List ℕ) : Type 0 where
-  pub started : Started s w v n r (run t bs)
+pub record Played (s v : List ℕ) (n r k : ℕ) (t : Tree) (bs : List ℕ) : Type 0 where
+  pub holds : Holds s v n r (run t bs)
   pub steps : k ≡ made t bs
-
--- the same, whatever the words were before
-abbrev pub Ended : List ℕ → List ℕ → ℕ → ℕ → ℕ → Tree → List ℕ → Type 0
-Ended s v n r k t bs = (w : List ℕ) × Played s w v n r k t bs

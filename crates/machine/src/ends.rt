@@ -1,11 +1,11 @@
-// The end of a run: the answer is read from the words, and the area is cleared.
-ghost use Rattle.std.specs.Prelude.{◌*◌, ◌≤◌, ◌≡◌, ◌++◌, length, drop, replicate};
+// The end of a run: the answer is read from the words.
+ghost use Rattle.std.specs.Prelude.{◌*◌, ◌≤◌, ◌≡◌, length};
 ghost use Rattle.rules.specs.Reading.{fields_of};
 ghost use Rattle.rules.specs.Answers.{start, stop_of, result_run};
-ghost use Rattle.machine.specs.Runs.{Playable, Ended};
+ghost use Rattle.machine.specs.Runs.{Playable, Played};
 ghost use Rattle.machine.specs.Answered.{words_of};
 
-use area::POSITIONS;
+use area::{POSITIONS, Words};
 use rules::{Finish, Progress, Ran};
 
 // Steps made, and the free and the ready numbers then.
@@ -22,11 +22,11 @@ pub fn answer(
     packet: &[u16],
     schedule: &[u8],
     res: &mut [u16],
-    work: &[u16],
+    work: &Words,
     c: End,
 ) -> Ran
     requires policy { Playable book.now (start book.now packet.now) × (16 * fields_of book.now ≤ length res.old) }
-    requires ended { Ended book.now work.now c.free c.ready c.steps (start book.now packet.now) schedule.now }
+    requires ended { Played book.now work.now c.free c.ready c.steps (start book.now packet.now) schedule.now }
     ensures { (result ≡ stop_of book.now packet.now schedule.now)
         × (res.new ≡ result_run (Ok result)
         (words_of book.now packet.now schedule.now) res.old) }
@@ -34,10 +34,11 @@ pub fn answer(
     if c.ready == 0 {
         let h = area::head(work, 0);
         let k = book::byte_at(book, 0) as usize;
-        area::emit_packets(work, 0, h.count, k, res);
+        let count = h.count as usize;
+        area::emit_packets(work, 0, count, k, res);
         return Ran::Finished(Finish {
             steps: c.steps,
-            count: h.count,
+            count,
         });
     }
     Ran::Running(Progress {
@@ -45,16 +46,4 @@ pub fn answer(
         live: POSITIONS - c.free,
         ready: c.ready,
     })
-}
-
-// Zeroes the first n words.
-pub fn clear(work: &mut [u16], n: usize)
-    requires { n ≤ length work.old }
-    ensures { work.new ≡ replicate n 0 ++ drop n work.old }
-{
-    let mut i: usize = 0;
-    while i < n {
-        work[i] = 0;
-        i += 1;
-    }
 }

@@ -34,7 +34,10 @@ fn run_weighed(
     if room > POSITIONS as u64 {
         return Err(Reason::Positions.into());
     }
-    Ok(conduct(book, packet, schedule, res, work))
+    let Some(area) = work.first_chunk_mut::<AREA_WORDS>() else {
+        unreachable!()
+    };
+    Ok(conduct(book, packet, schedule, res, area))
 }
 
 // The run of an accepted book, for a caller that has its sizes: 8, 12, 9, 10 and 11 in this order. Of the evaluator's answer nothing is

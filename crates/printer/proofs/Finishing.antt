@@ -1,7 +1,7 @@
 -- A finished run: its packets stand in the first words of the result, sixteen at most, and the lines made of those words are theirs.
 -- So what is printed of a run follows from the answer and the result that the machine leaves.
 use Rattle.std.specs.Prelude.{Err, Ok, Result}
-use Prim.Native.Nat.{ℕ, ◌*◌, ◌≤◌}
+use Prim.Native.Nat.{ℕ, ◌*◌, ◌≤◌, ◌<◌}
 use native.Mathlib.Omega.{arith}
 use native.Mathlib.Nat.{le_refl}
 use mathlib.Core.Path.{◌≡◌, refl, sym, ap, ◌∙◌}
@@ -16,7 +16,9 @@ use Rattle.rules.specs.declared.Progress.{Progress}
 use Rattle.rules.specs.declared.Ran.{Ran}
 use Rattle.rules.specs.declared.Ran.TheVariants.{Finished, Running}
 use Rattle.rules.specs.Packets.{Packet, Packets, most_packets, ◌∈◌, values_of}
-use Rattle.rules.specs.Reading.{fields_of, main_of}
+use Rattle.rules.specs.declared.Sizes.{Sizes}
+use Rattle.rules.specs.Reading.{fields_of, main_of, sizes_of, verdict}
+use Rattle.rules.proofs.AcceptedBooks.{accepted_sizes, accepted_fields}
 use Rattle.rules.specs.States.{finish, run, made}
 use Rattle.rules.specs.Answers.{area_words, start_set, start_spot, given, start, packet_checks, run_checks, stop_of}
 use Rattle.rules.specs.Answers.{ran, ran_result, overwritten, final_of}
@@ -114,11 +116,21 @@ unfolding ran run_checks packet_checks
 ran_alike book packet schedule words more h k =
     rw (le-leb (most_packets * fields_of book) words h, le-leb (most_packets * fields_of book) more k)
 
--- k fields, and a buffer for as many as there can be
-module _ (book packet schedule : List ℕ) (words area k : ℕ) (a : Result Ran Refusal) (fields : k ≡ fields_of book) (eight : k ≤ 8)
+-- an accepted book, and a buffer for as many packets as there can be
+module _ (book packet schedule : List ℕ) (words area : ℕ) (a : Result Ran Refusal) (z : Sizes) (yes : verdict book ≡ Ok z)
     (long : words ≡ 128) (wide : area ≡ area_words) (answer : a ≡ ran book packet schedule words area) where
+  abbrev k : ℕ
+  k = z.fields
+
+  fields : k ≡ fields_of book
+  unfolding sizes_of
+  fields = ap (λ (y : Sizes). y.fields) (accepted_sizes book z yes)
+
+  bounds : (1 ≤ fields_of book) × (fields_of book ≤ 8)
+  bounds = accepted_fields book z yes
+
   fits : most_packets * fields_of book ≤ words
-  fits = omega arith
+  fits = omega (arith, bounds.1)
 
   text_ran : ran_text book packet schedule ≡ ran_lines (fields_of book) (final_of (finish (run (start book packet) schedule))) a
   unfolding ran_text
@@ -138,9 +150,10 @@ module _ (book packet schedule : List ℕ) (words area k : ℕ) (a : Result Ran 
     ended : ran book packet schedule (length result) area ≡ Ok (Finished f)
     ended = rw size (sym answer ∙ ends)
 
-    pub finished_asks : (k ≤ 8) × (f.count ≤ 16) × (f.count * k ≤ length after)
+    pub finished_asks : (0 < k) × (k ≤ 8) × (f.count ≤ 16) × (f.count * k ≤ length after)
     finished_asks = (
-      eight,
+      rw fields bounds.0,
+      rw fields bounds.1,
       finished_few book packet schedule result area f ended,
       rw (fields, left) (finished_words book packet schedule result area f ended bytes),
     )

@@ -1,13 +1,13 @@
 -- The input's parts: its words, one after the other, and each part of document 01's order as the program takes it.
-use Rattle.std.specs.Prelude.{Ok, Result}
+use Rattle.std.specs.Prelude.{Err, Ok, Result}
 use Rattle.rules.specs.declared.Refusal.{Refusal}
-use Prim.Native.Nat.{ℕ, zero, suc, ◌+◌, ◌*◌, ◌-◌, ◌≤◌, ◌<◌}
+use Prim.Native.Nat.{ℕ, zero, suc, ◌+◌, ◌*◌, ◌≤◌, ◌<◌}
 use native.Mathlib.Omega.{arith}
-use native.Mathlib.Nat.{add-sub_cancel_left}
-use mathlib.Core.Path.{◌≡◌, refl, sym, ap, ap₂, ◌∙◌}
+use mathlib.Core.Path.{◌≡◌, refl, ap, ◌∙◌}
 use mathlib.Core.List.{List, [], ◌∷◌, ◌++◌}
 use lib.ListN.{length, take, drop, length-drop}
-use lib.Seq.{get_or-drop, take_all}
+use lib.Seq.{get_or-drop, get_or-take, drop-drop}
+use Rattle.std.proofs.lemmas.List.{drop-take}
 use Rattle.rules.specs.declared.Reason.TheVariants.{PacketLength, Input}
 use Rattle.rules.specs.declared.Sizes.{Sizes}
 use Rattle.rules.specs.Books.{most_bytes}
@@ -15,8 +15,8 @@ use Rattle.rules.specs.Checks.{no_place}
 use Rattle.rules.specs.Reading.{number_at, fields_of, sizes_of, verdict}
 use Rattle.rules.proofs.AcceptedBooks.{accepted_sizes, accepted_fields}
 use Rattle.printer.specs.Printing.{most_choices, book_in, after_book, words_in, schedule_in, refused_line, ran_in, ends_with, printed}
-use Rattle.printer.specs.Building.{Accepts, ran_text}
-use Rattle.printer.proofs.Ways.{printed_cut_packet, printed_long_schedule, printed_ran}
+use Rattle.printer.specs.Building.{HasBook, ran_text}
+use Rattle.printer.proofs.Ways.{printed_refused, printed_cut_packet, printed_long_schedule, printed_ran}
 
 number_drop : (m at : ℕ) (l : List ℕ) → number_at (drop m l) at ≡ number_at l (m + at)
 number_drop m at l =
@@ -34,78 +34,70 @@ pub words_length : (n : ℕ) (l : List ℕ) → length (words_in n l) ≡ n
 words_length zero l = refl
 words_length (suc n) l = ap suc (words_length n (drop 2 l))
 
--- ---- the parts as the program takes them
+-- of the words' bytes alone
+pub words_front : (n : ℕ) (l : List ℕ) → words_in n (take (2 * n) l) ≡ words_in n l
+words_front zero l = refl
+words_front (suc n) l =
+    let e : 2 * suc n ≡ 2 + 2 * n = omega arith in
+    let first = get_or-take (2 + 2 * n) l 0 0 (omega arith) in
+    let second = get_or-take (2 + 2 * n) l 1 0 (omega arith) in
+    rw (e, first, second, drop-take 2 (2 * n) l, words_front n (drop 2 l))
 
-tail_part : (m : ℕ) (l : List ℕ) → take (length l - m) (drop m l) ≡ drop m l
-tail_part m l = take_all (length l - m) (drop m l) (omega (arith, length-drop m l))
+-- ---- the parts as the program cuts them off
 
-book_part : (input : List ℕ) (n : ℕ) → n ≡ number_at input 0 → take (2 + n - 2) (drop 2 input) ≡ book_in input
-book_part input n e = rw (add-sub_cancel_left 2 n, e)
-
--- the verdict on the book's part, and on the book
-pub book_judged : (input : List ℕ) (n : ℕ) {r v : Result Sizes Refusal} → n ≡ number_at input 0 → r ≡ verdict (take (2 + n - 2) (drop 2 input)) → r ≡ v
-    → verdict (book_in input) ≡ v
-book_judged input n e j k = ap verdict (sym (book_part input n e)) ∙ sym j ∙ k
-
-pub accepts : (input : List ℕ) (n : ℕ) (z : Sizes) → n ≡ number_at input 0 → n ≤ most_bytes → 2 + n ≤ length input
-    → verdict (book_in input) ≡ Ok z → Accepts input n z
-unfolding sizes_of
-accepts input n z e few whole ok =
-    let fields : z.fields ≡ fields_of (book_in input) = ap (λ (y : Sizes). y.fields) (accepted_sizes (book_in input) z ok) in
+pub cut : (input : List ℕ) {n : ℕ} {tail book rest : List ℕ} → 2 ≤ length input → tail ≡ drop 2 input → n ≡ number_at input 0 → n ≤ most_bytes
+    → n ≤ length tail → book ≡ take n tail → rest ≡ drop n tail → HasBook input book rest
+cut input {n} two t e few long b r =
+    let there = length-drop 2 input in
+    let tail_long = ap length t in
     record {
-      number = e;
-      few = few;
-      whole = whole;
-      accepted = ok;
-      fields = fields;
-      eight = rw fields (accepted_fields (book_in input) z ok).1;
+      few = rw (← e) few;
+      whole = rw (← e) (omega arith);
+      book_is = b ∙ rw (t, e);
+      rest_is = r ∙ rw (t, e, drop-drop (number_at input 0) 2 input);
     }
 
--- the bytes after the first m
-abbrev pub tail_of : ℕ → List ℕ → List ℕ
-tail_of m l = take (length l - m) (drop m l)
+pub cut_short : (input : List ℕ) {n : ℕ} {tail : List ℕ} → 2 ≤ length input → tail ≡ drop 2 input → n ≡ number_at input 0 → length tail < n
+    → length input < 2 + number_at input 0
+cut_short input two t e short =
+    let there = length-drop 2 input in
+    let tail_long = ap length t in
+    rw (← e) (omega arith)
 
-module _ (input : List ℕ) (n : ℕ) (z : Sizes) (a : Accepts input n z) where
-  abbrev k : ℕ
-  k = z.fields
-
-  rest_part : tail_of (2 + n) input ≡ after_book input
-  rest_part = tail_part (2 + n) input ∙ ap (λ (m : ℕ). drop (2 + m) input) a.number
-
-  schedule_part : tail_of (2 * k) (tail_of (2 + n) input) ≡ schedule_in input
-  schedule_part = tail_part (2 * k) (tail_of (2 + n) input) ∙ ap₂ (λ (m : ℕ) (l : List ℕ). drop (2 * m) l) a.fields rest_part
-
-  pub book_fields : k ≡ fields_of (take (2 + n - 2) (drop 2 input))
-  book_fields = a.fields ∙ ap fields_of (sym (book_part input n a.number))
-
-  pub book_accepted : verdict (take (2 + n - 2) (drop 2 input)) ≡ Ok z
-  book_accepted = ap verdict (book_part input n a.number) ∙ a.accepted
-
-  -- the ways that are left, on these parts
+module _ {input book rest : List ℕ} (h : HasBook input book rest) where
   two : 2 ≤ length input
-  two = omega (arith, a.whole)
+  two = omega (arith, h.whole)
 
-  few : number_at input 0 ≤ most_bytes
-  few = rw (← a.number) a.few
+  judged : {v : Result Sizes Refusal} → verdict book ≡ v → verdict (book_in input) ≡ v
+  judged e = rw h.book_is at e
 
-  whole : 2 + number_at input 0 ≤ length input
-  whole = rw (← a.number) a.whole
+  pub book_refused : (r : Refusal) → verdict book ≡ Err r → printed input ≡ refused_line r
+  book_refused r e = printed_refused input two h.few h.whole r (judged e)
 
-  pub way_cut_packet : length (tail_of (2 + n) input) < 2 * k → printed input ≡ refused_line (no_place PacketLength)
-  way_cut_packet h = printed_cut_packet input two few whole z a.accepted (rw (← a.fields, ← rest_part) h)
+  module _ {z : Sizes} (yes : verdict book ≡ Ok z) where
+    fields : z.fields ≡ fields_of (book_in input)
+    unfolding sizes_of
+    fields = ap (λ (y : Sizes). y.fields) (accepted_sizes (book_in input) z (judged yes))
 
-  module _ (enough : 2 * k ≤ length (tail_of (2 + n) input)) where
-    packet : 2 * fields_of (book_in input) ≤ length (after_book input)
-    packet = rw (← a.fields, ← rest_part) enough
+    pub fields_few : z.fields ≤ 8
+    fields_few = rw fields (accepted_fields (book_in input) z (judged yes)).1
 
-    pub way_long_schedule : most_choices < length (tail_of (2 * k) (tail_of (2 + n) input)) → printed input ≡ refused_line (no_place Input)
-    way_long_schedule h =
-        printed_long_schedule input two few whole z a.accepted packet (rw (← schedule_part) h)
+    pub packet_cut : length rest < 2 * z.fields → printed input ≡ refused_line (no_place PacketLength)
+    packet_cut h' = printed_cut_packet input two h.few h.whole z (judged yes) (rw (← fields, ← h.rest_is) h')
 
-    pub way_ran : length (tail_of (2 * k) (tail_of (2 + n) input)) ≤ most_choices
-        → printed input
-        ≡ ran_text (take (2 + n - 2) (drop 2 input)) (words_in k (tail_of (2 + n) input)) (tail_of (2 * k) (tail_of (2 + n) input))
-    unfolding ran_text ran_in ends_with
-    way_ran h =
-        printed_ran input two few whole z a.accepted packet (rw (← schedule_part) h)
-        ∙ rw (book_part input n a.number, schedule_part, rest_part, a.fields)
+    module _ {schedule : List ℕ} (long : 2 * z.fields ≤ length rest) (after : schedule ≡ drop (2 * z.fields) rest) where
+      packet : 2 * fields_of (book_in input) ≤ length (after_book input)
+      packet = rw (← fields, ← h.rest_is) long
+
+      schedule_is : schedule ≡ schedule_in input
+      schedule_is = after ∙ rw (fields, h.rest_is)
+
+      pub schedule_long : most_choices < length schedule → printed input ≡ refused_line (no_place Input)
+      schedule_long m = printed_long_schedule input two h.few h.whole z (judged yes) packet (rw (← schedule_is) m)
+
+      pub run_asked : {words packet : List ℕ} → words ≡ take (2 * z.fields) rest → packet ≡ words_in z.fields words → length schedule ≤ most_choices
+          → printed input ≡ ran_text book packet schedule
+      unfolding ran_text ran_in ends_with
+      run_asked w e m =
+          printed_ran input two h.few h.whole z (judged yes) packet (rw (← schedule_is) m)
+          ∙ rw (e, w, words_front z.fields rest, h.book_is, fields, h.rest_is, schedule_is)

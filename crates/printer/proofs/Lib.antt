@@ -2,7 +2,6 @@
 pub mod Enough
 pub mod Examples
 -- the text and the lines
-pub mod TextLaws
 pub mod DecimalLaws
 pub mod LineLaws
 -- the order of the answers, the input's parts, and what a run leaves

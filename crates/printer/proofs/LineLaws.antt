@@ -1,27 +1,16 @@
--- The laws of the lines: how each is built from the front, and that every line and every answer fits a text.
-use Prim.Native.Nat.{ℕ, zero, suc, ◌+◌, ◌*◌, ◌-◌, ◌≤◌, ◌<◌}
-use native.Mathlib.Omega.{arith}
-use native.Mathlib.Numerals.{add-one}
-use mathlib.Core.Path.{◌≡◌, refl}
-use mathlib.Core.List.{List, [], ◌∷◌, ◌++◌}
-use native.Mathlib.Nat.{mul-le-mul, add-sub_cancel_left}
-use lib.ListN.{length, get_or, take, drop, length-append, length-take, drop_of_length-le}
-use lib.Seq.{drop-cons, drop-drop}
+-- The laws of the lines: the parts of one, and those that are still to be added on the way through values or packets.
+use Rattle.std.proofs.Common.{◌≡◌, ℕ, zero, suc, ◌+◌, ◌*◌, ◌≤◌, ◌<◌, List, [], ◌∷◌, ◌++◌, length, take, drop, get_or, refl, sym, ◌∙◌, arith, append_assoc, append-nil, add-one, length-append, drop-cons}
+use lib.ListN.{drop_of_length-le}
+use lib.Seq.{take_at, drop_at, take-take, length-take-le}
+use Rattle.std.proofs.lemmas.List.{drop-take}
 use Rattle.printer.specs.Printing.{decimal, blank_then, line_end, further_values, values_line}
 use Rattle.printer.specs.Building.{lines_of}
-use Rattle.printer.proofs.DecimalLaws.{digits_few}
 
--- ---- a packet's line, from the front
+-- a word and two parts, and what follows
+pub parts : (word a b rest : List ℕ) → (word ++ (a ++ b)) ++ rest ≡ word ++ (a ++ (b ++ rest))
+parts word a b rest = append_assoc word (a ++ b) rest ∙ rw (append_assoc a b rest)
 
-pub values_none : (v : List ℕ) → length v ≡ 0 → values_line v ≡ line_end
-unfolding values_line
-values_none [] h = refl
-values_none (x ∷ v) h = absurd (omega arith)
-
-pub values_first : (v : List ℕ) → (length v ≡ 0 → ⊥) → values_line v ≡ decimal (get_or v 0 0) ++ further_values (drop 1 v)
-unfolding values_line
-values_first [] h = absurd (h refl)
-values_first (x ∷ v) h = refl
+-- ---- a packet's line
 
 pub further_next : (v : List ℕ) (i : ℕ) → i < length v → further_values (drop i v) ≡ blank_then (get_or v i 0) ++ further_values (drop (i + 1) v)
 unfolding further_values
@@ -31,52 +20,72 @@ pub further_none : (v : List ℕ) (i : ℕ) → length v ≤ i → further_value
 unfolding further_values
 further_none v i h = rw (drop_of_length-le v h)
 
--- ---- the packets' lines, from the front
-
-pub lines_next : (k n at : ℕ) (l : List ℕ) → 0 < n
-    → lines_of k n (drop at l) ≡ values_line (take (at + k - at) (drop at l)) ++ lines_of k (n - 1) (drop (at + k) l)
-unfolding lines_of
-lines_next k zero at l h = absurd (omega arith)
-lines_next k (suc n) at l h =
-    let e : suc n - 1 ≡ n = omega arith in
-    rw (add-sub_cancel_left at k, drop-drop k at l, e)
-
-pub lines_none : (k n : ℕ) (l : List ℕ) → n ≤ 0 → lines_of k n l ≡ []
-unfolding lines_of
-lines_none k zero l h = refl
-lines_none k (suc n) l h = absurd (omega arith)
-
--- one packet's values less
-pub one_less : (k n : ℕ) → 0 < n → n * k ≡ (n - 1) * k + k
-one_less k zero h = absurd (omega arith)
-one_less k (suc n) h =
-    let e : suc n - 1 ≡ n = omega arith in
-    rw e (omega arith)
-
--- ---- the lengths
-
-further_few : (v : List ℕ) → length (further_values v) ≤ 21 * length v + 1
-unfolding further_values
-further_few [] = omega arith
-further_few (x ∷ v) = rw length-append (omega (arith, digits_few 20 x, further_few v))
-
-values_few : (v : List ℕ) → length (values_line v) ≤ 21 * length v + 1
+pub values_first : {v : List ℕ} (text : List ℕ) (first : ℕ) (others : List ℕ) → v ≡ first ∷ others
+    → (text ++ decimal first) ++ further_values others ≡ text ++ values_line v
 unfolding values_line
-values_few [] = omega arith
-values_few (x ∷ v) = rw length-append (omega (arith, digits_few 20 x, further_few v))
+values_first text first others e = rw e (append_assoc text (decimal first) (further_values others))
 
-lines_few : (k n : ℕ) (l : List ℕ) → length (lines_of k n l) ≤ n * (21 * k + 1)
+pub values_none : (v text : List ℕ) → length v ≡ 0 → text ++ line_end ≡ text ++ values_line v
+unfolding values_line
+values_none [] text e = refl
+values_none (x ∷ v) text e = absurd (omega arith)
+
+-- ---- the packets' lines
+
+-- the lines of the words of so many packets, whatever follows these words
+pub lines_front : (k n : ℕ) (l : List ℕ) → lines_of k n (take (n * k) l) ≡ lines_of k n l
 unfolding lines_of
-lines_few k zero l = omega arith
-lines_few k (suc n) l =
-    rw length-append (omega (arith, values_few (take k l), length-take k l, lines_few k n (drop k l)))
+lines_front k zero l = refl
+lines_front k (suc n) l =
+    let whole : suc n * k ≡ k + n * k = omega arith in
+    rw (whole, take-take k (k + n * k) l (omega arith), drop-take k (n * k) l, lines_front k n (drop k l))
 
-pub opening_few : (word : List ℕ) (a b : ℕ) → length (word ++ (blank_then a ++ blank_then b)) ≤ length word + 42
-opening_few word a b = simp length-append (omega (arith, digits_few 20 a, digits_few 20 b))
+-- so many packets are still to come, the words are theirs, and there is room for their lines
+pub record Packets (k : ℕ) (rest whole text : List ℕ) : Type 0 where
+  pub left : ℕ
+  pub words : length rest ≡ left * k
+  pub room : length text + 169 * left ≤ 4096
+  pub built : text ++ lines_of k left rest ≡ whole
 
--- sixteen packets of eight values fit
-pub lines_fit : (k n : ℕ) (l : List ℕ) → k ≤ 8 → n ≤ 16 → length (lines_of k n l) ≤ 2704
-lines_fit k n l few most =
-    let line : 21 * k + 1 ≤ 169 = omega arith in
-    let rows : n * (21 * k + 1) ≤ 16 * 169 = mul-le-mul most line in
-    omega (arith, lines_few k n l)
+pub packets_all : (k count : ℕ) (words text : List ℕ) → count ≤ 16 → count * k ≤ length words → length text ≤ 51
+    → Packets k (take (count * k) words) (text ++ lines_of k count words) text
+packets_all k count words text few long short = record {
+  left = count;
+  words = length-take-le (count * k) words long;
+  room = omega arith;
+  built = rw (lines_front k count words);
+}
+
+-- there is one, so room for its line
+pub packets_room : {k : ℕ} {whole text : List ℕ} (x rest : List ℕ) → k ≤ 8 → 0 < k → length x ≡ k → Packets k (x ++ rest) whole text
+    → length text + (21 * length x + 1) ≤ 4096
+packets_room {k} {whole} {text} x rest eight one e p = by p.left p.words p.room
+  where
+    by : (left : ℕ) → length (x ++ rest) ≡ left * k → length text + 169 * left ≤ 4096 → length text + (21 * length x + 1) ≤ 4096
+    by zero w r = absurd (omega (arith, length-append x rest))
+    by (suc left) w r = omega arith
+
+-- its line is added
+pub packets_next : {k : ℕ} {whole text more : List ℕ} (x rest : List ℕ) → k ≤ 8 → 0 < k → length x ≡ k → Packets k (x ++ rest) whole text
+    → more ≡ text ++ values_line x → length more ≤ length text + (21 * length x + 1) → Packets k rest whole more
+unfolding lines_of
+packets_next {k} {whole} {text} {more} x rest eight one e p m short = by p.left p.words p.room p.built
+  where
+    by : (left : ℕ) → length (x ++ rest) ≡ left * k → length text + 169 * left ≤ 4096 → text ++ lines_of k left (x ++ rest) ≡ whole
+        → Packets k rest whole more
+    by zero w r b = absurd (omega (arith, length-append x rest))
+    by (suc left) w r b = record {
+      left = left;
+      words = omega (arith, length-append x rest);
+      room = omega arith;
+      built = rw m (append_assoc text (values_line x) (lines_of k left rest) ∙ rw (take_at x rest k e, drop_at x rest k e) at b);
+    }
+
+-- none
+pub packets_none : {k : ℕ} {whole text : List ℕ} (rest : List ℕ) → length rest < k → Packets k rest whole text → text ≡ whole
+unfolding lines_of
+packets_none {k} {whole} {text} rest h p = by p.left p.words p.built
+  where
+    by : (left : ℕ) → length rest ≡ left * k → text ++ lines_of k left rest ≡ whole → text ≡ whole
+    by zero w b = sym (append-nil text) ∙ b
+    by (suc left) w b = absurd (omega arith)

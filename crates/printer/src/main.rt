@@ -4,16 +4,16 @@
 mod lines;
 mod text;
 
-ghost use Rattle.std.specs.Prelude.{◌*◌, ◌≤◌, ◌≡◌, IfOk, length, take};
-ghost use Rattle.std.specs.Prelude.{Ok};
-ghost use Rattle.rules.specs.Reading.{fields_of, verdict};
-ghost use Rattle.printer.specs.Printing.{words_in, printed};
-ghost use Rattle.printer.specs.Building.{IsPrefixLen, Holds, Accepts, ran_text, text, text_of};
+ghost use Rattle.std.specs.Prelude.{◌≤◌, ◌≡◌, IfOk, IfSome, MatchResult, Ok, take};
+ghost use Rattle.rules.specs.Reading.{verdict};
+ghost use Rattle.printer.specs.Printing.{words_in, refused_line, printed};
+ghost use Rattle.printer.specs.Building.{HasBook, Asks, ran_text};
 
+use arrayvec::ArrayVec;
 use lines::{finished, refused, running};
-use rules::{Ran, Reason, Sizes};
+use rules::{Ran, Reason, Refusal, Sizes};
 use std::io;
-use std::io::{Read, Write};
+use std::io::{Print, Read};
 use text::Text;
 
 // The longest book and schedule that are read.
@@ -21,98 +21,98 @@ const MOST_BYTES: usize = 4096;
 
 const MOST_CHOICES: usize = 8192;
 
-// The packet's words, in the first k places.
-fn packet_of(s: &[u8], k: usize) -> [u16; 8]
-    requires { (k ≤ 8) × (2 * k ≤ length s.now) }
-    ensures { take k result ≡ words_in k s.now }
+// As much of the input as decides what is printed: 2 + 4,096 + 16 + 8,193 bytes.
+const MOST_INPUT: usize = 12307;
+
+// What an input asks for: the run of an accepted book, whose sizes are these, on a packet and under a schedule.
+#[derive(Drop)]
+struct Request<'a> {
+    book: &'a [u8],
+    sizes: Sizes,
+    packet: ArrayVec<u16, 8>,
+    schedule: &'a [u8],
+}
+
+fn packet_of(s: &[u8], k: usize) -> ArrayVec<u16, 8>
+    requires { k ≤ 8 }
+    ensures { result.items ≡ words_in k s.now }
 {
-    let mut packet = [0u16; 8];
-    let mut i = 0;
-    while i < k {
-        packet[i] = book::number_at(s, 2 * i);
-        i += 1;
+    let mut packet = ArrayVec::new();
+    for i in 0..k {
+        packet.push(book::number_at(s, 2 * i));
     }
     packet
 }
 
+// The book of an input, and what follows it; or why the input is turned away before the book is read.
+fn cut_book(input: &[u8]) -> Result<(&[u8], &[u8]), Refusal>
+    ensures { MatchResult result (λ cut. HasBook input.now cut.0.now cut.1.now)
+        (λ r. printed input.now ≡ refused_line r) }
+{
+    let (_, tail) = input.split_at_checked(2).ok_or(Reason::Input)?;
+    let n = usize::from(book::number_at(input, 0));
+    if MOST_BYTES < n {
+        return Err(Reason::BookLength.into());
+    }
+    let (book, rest) = tail.split_at_checked(n).ok_or(Reason::Input)?;
+    Ok((book, rest))
+}
+
+// The parts of an input, or why it is turned away before the run.
+fn request_of(input: &[u8]) -> Result<Request<'_>, Refusal>
+    ensures { MatchResult result (Asks input.now) (λ r. printed input.now ≡ refused_line r) }
+{
+    let (book, rest) = cut_book(input)?;
+    let sizes = typing::accept(book)?;
+    let k = sizes.fields;
+    let (words, schedule) = rest.split_at_checked(2 * k).ok_or(Reason::PacketLength)?;
+    if MOST_CHOICES < schedule.len() {
+        return Err(Reason::Input.into());
+    }
+    let packet = packet_of(words, k);
+    Ok(Request {
+        book,
+        sizes,
+        packet,
+        schedule,
+    })
+}
+
 // The answer of the machine, with a result and a working area of its own.
-fn print_machine(book: &[u8], packet: &[u16], schedule: &[u8], z: Sizes) -> Text
-    requires { (z.fields ≡ fields_of book.now) × (z.fields ≤ 8) × (verdict book.now ≡ Ok z) }
-    ensures { Holds result (ran_text book.now packet.now schedule.now) }
+fn print_answer(book: &[u8], packet: &[u16], schedule: &[u8], sizes: Sizes) -> Text
+    requires { verdict book.now ≡ Ok sizes }
+    ensures { result.bytes ≡ ran_text book.now packet.now schedule.now }
 {
     let mut result = [0u16; 128];
     let mut work = [0u16; 21760];
-    match machine::run_accepted(book, packet, schedule, &mut result, &mut work, z) {
-        Ok(Ran::Finished(f)) => finished(f, z.fields, &result),
+    match machine::run_accepted(book, packet, schedule, &mut result, &mut work, sizes) {
+        Ok(Ran::Finished(f)) => finished(f, sizes.fields, &result),
         Ok(Ran::Running(p)) => running(p),
         Err(r) => refused(r),
     }
 }
 
-// What follows an accepted book of n bytes: the packet and the schedule.
-fn print_accepted(input: &[u8], n: usize, z: Sizes) -> Text
-    requires { Accepts input.now n z }
-    ensures { Holds result (printed input.now) }
-{
-    let from = 2 + n;
-    let rest = &input[from..];
-    let k = z.fields;
-    let bytes = 2 * k;
-    if rest.len() < bytes {
-        return refused(Reason::PacketLength.into());
-    }
-    let schedule = &rest[bytes..];
-    if MOST_CHOICES < schedule.len() {
-        return refused(Reason::Input.into());
-    }
-    let packet = packet_of(rest, k);
-    print_machine(&input[2..from], &packet[..k], schedule, z)
-}
-
 // Exactly what document 01 says is printed for an input.
 pub fn print_run(input: &[u8]) -> Text
-    ensures printed { (text result ≡ printed input.now) × (result ≡ text_of (printed input.now)) }
-    ensures in_bounds { IsPrefixLen result.len result.bytes }
+    ensures { result.bytes ≡ printed input.now }
 {
-    if input.len() < 2 {
-        return refused(Reason::Input.into());
-    }
-    let n = book::number_at(input, 0) as usize;
-    if MOST_BYTES < n {
-        return refused(Reason::BookLength.into());
-    }
-    let from = 2 + n;
-    if input.len() < from {
-        return refused(Reason::Input.into());
-    }
-    match typing::accept(&input[2..from]) {
+    match request_of(input) {
+        Ok(q) => print_answer(q.book, q.packet.as_slice(), q.schedule, q.sizes),
         Err(r) => refused(r),
-        Ok(z) => print_accepted(input, n, z),
     }
 }
 
-// Reads until the buffer is full or the input ends; gives how many bytes there are.
-fn read_full(from: &mut impl Read, buf: &mut [u8]) -> io::Result<usize>
-    ensures ok { IfOk result (λ n. IsPrefixLen n buf.new) }
-    ensures kept { length buf.new ≡ length buf.old }
+// The front of the input.
+fn read_front<R: Read>(from: &mut R) -> io::Result<ArrayVec<u8, MOST_INPUT>>
+    ensures { IfOk result (λ input. IfSome (R.remaining from.old)
+        (λ bytes. input.items ≡ take MOST_INPUT bytes)) }
 {
-    let mut done = 0;
-    while done < buf.len() {
-        let n = from.read(&mut buf[done..])?;
-        if n == 0 {
-            break;
-        }
-        done += n;
-    }
-    Ok(done)
+    let mut input = ArrayVec::new();
+    io::copy(&mut from.take(MOST_INPUT as u64), &mut input)?;
+    Ok(input)
 }
 
-// Reads as much as decides what is printed: 2 + 4,096 + 16 + 8,193 bytes.
 fn main(rt: HostRuntime) -> io::Result<()> {
-    let mut input = [0u8; 12307];
-    let n = read_full(&mut rt.reader(), &mut input)?;
-    let t = print_run(&input[..n]);
-    let bytes = t.bytes;
-    let len = t.len;
-    io::writer(&rt).write_all(&bytes[..len])
+    let input = read_front(&mut rt.reader())?;
+    rt.print(print_run(input.as_slice()))
 }

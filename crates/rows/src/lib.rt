@@ -16,6 +16,9 @@ pub const MOST: usize = 16;
 
 const WIDEST: usize = 16;
 
+// A row by itself: its values, and whatever after them.
+pub type Row = [u16; WIDEST];
+
 // A row taken up: its first eight values and its last eight.
 #[derive(Clone, Copy)]
 struct Blocks {
@@ -131,7 +134,7 @@ pub fn put_row(w: &mut [u16], k: usize, p: &[u16], r: usize)
 }
 
 // Row j by itself.
-pub fn row(v: &[u16], j: usize, r: usize) -> [u16; WIDEST]
+pub fn row(v: &[u16], j: usize, r: usize) -> Row
     requires { (j < most_packets) × Array r v.now }
     ensures { take r result ≡ get_or (rows_of r v.now) j [] }
 {
@@ -271,7 +274,7 @@ fn mix8(w: u16, c: usize, p: [u16; 8], q: [u16; 8]) -> [u16; 8]
 }
 
 // The r values of p at a, but those of w from q at b.
-fn mix_at(w: u16, p: &[u16], a: usize, q: &[u16], b: usize, r: usize) -> [u16; WIDEST]
+fn mix_at(w: u16, p: &[u16], a: usize, q: &[u16], b: usize, r: usize) -> Row
     requires { (8 ≤ r) × (r ≤ widest) × (a + r ≤ length p.now) × (b + r ≤ length q.now) }
     ensures { take r result ≡ mix w (take r (drop a p.now)) (take r (drop b q.now)) }
 {
@@ -284,7 +287,7 @@ fn mix_at(w: u16, p: &[u16], a: usize, q: &[u16], b: usize, r: usize) -> [u16; W
 }
 
 // The fields of row i of v, but those of w from row j of q, by themselves.
-pub fn mix_rows(w: u16, v: &[u16], i: usize, q: &[u16], j: usize, r: usize) -> [u16; WIDEST]
+pub fn mix_rows(w: u16, v: &[u16], i: usize, q: &[u16], j: usize, r: usize) -> Row
     requires { (i < most_packets) × (j < most_packets) × Array r v.now × Array r q.now }
     ensures { take r result ≡ mix w (get_or (rows_of r v.now) i []) (get_or (rows_of r q.now) j []) }
 {
@@ -292,7 +295,7 @@ pub fn mix_rows(w: u16, v: &[u16], i: usize, q: &[u16], j: usize, r: usize) -> [
 }
 
 // A row by itself, without the fields of w.
-pub fn bare_row(w: u16, p: &[u16], r: usize) -> [u16; WIDEST]
+pub fn bare_row(w: u16, p: &[u16], r: usize) -> Row
     requires { (8 ≤ r) × (r ≤ widest) × (r ≤ length p.now) }
     ensures { take r result ≡ without w (take r p.now) }
 {

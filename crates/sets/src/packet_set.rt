@@ -7,7 +7,7 @@ ghost use Rattle.rules.specs.Packets.{places};
 ghost use Rattle.rows.specs.Chunks.{Packed};
 ghost use Rattle.sets.specs.Packing.{Packed-prop};
 
-use rows::MOST;
+use rows::{MOST, Row};
 use rules::Reason;
 
 // The places of a row, and the words of sixteen rows.
@@ -70,11 +70,10 @@ impl PacketSet {
     }
 
     // The set of one packet, a row by itself, without the fields of w.
-    pub fn alone(p: &[u16], w: u8, mask: u8) -> PacketSet
-        requires { places ≤ length p.now }
-        ensures { Is result (less mask w) (without w (take places p.now) ∷ []) }
+    pub fn alone(row: &Row, w: u8, mask: u8) -> PacketSet
+        ensures { Is result (less mask w) (without w (take places row.now) ∷ []) }
     {
-        let bare = rows::bare_row(u16::from(w), p, PLACES);
+        let bare = rows::bare_row(u16::from(w), row, PLACES);
         let mut values = [0u16; WORDS];
         rows::put_row(&mut values, 0, &bare, PLACES);
         PacketSet {
@@ -98,7 +97,7 @@ impl PacketSet {
     }
 
     // Packet i, a row by itself.
-    pub fn packet(&self, i: usize) -> [u16; MOST]
+    pub fn packet(&self, i: usize) -> Row
         requires { i < self.now.count }
         ensures { take places result ≡ get_or (packets self.now) i [] }
     {

@@ -2,9 +2,7 @@
 use Prim.Native.Nat.{ℕ, zero, suc, ◌+◌, ◌-◌, ◌≤◌, ◌<◌}
 use native.Mathlib.Omega.{arith}
 use mathlib.Core.Path.{◌≡◌, refl, sym, ap, ◌∙◌}
-use mathlib.Core.Bool.{cond}
 use mathlib.Core.List.{List, [], ◌∷◌, ◌++◌, map}
-use lib.Dec.{eqb}
 use lib.ListN.{get_or}
 use Rattle.rules.specs.Packets.{Packets, passes, put, keep, gathered, most_packets}
 use Rattle.rules.specs.Parts.{Part, Not, size}
@@ -19,10 +17,15 @@ use Rattle.rows.specs.Chunks.{chunks}
 use Rattle.links.specs.Nets.{times}
 use Rattle.links.proofs.Times.{same_self, times_append, live_foot}
 use Rattle.area.specs.declared.headers.Header.{Header}
-use Rattle.area.specs.Words.{positions, row_words, nobody, negated_phase, entered_phase, header_at, finished_head, rows_at, free_list, Headed}
+use Rattle.std.specs.Option.{option_or}
+use Rattle.std.specs.Prelude.{Option, Some}
+use Rattle.area.specs.declared.headers.Phase.TheVariants.{Negated, Entered}
+use Rattle.area.specs.declared.lists.Ready.TheVariants.{Nobody}
+use Rattle.area.specs.Ready.{ready_of}
+use Rattle.area.specs.Words.{positions, row_words, header_at, finished_head, rows_at, free_list, Headed}
 use Rattle.area.specs.Words.{Filled, HasSet}
 use Rattle.steps.specs.Standing.{part_of, join_of, Runnable, Readable, Marked}
-use Rattle.steps.specs.State.{Laying, Laid, spot_at, part_at, set_at, entering, Turned, Entering}
+use Rattle.steps.specs.State.{two_ready, Laying, Laid, spot_at, part_at, set_at, entering, Turned, Entering}
 use Rattle.steps.proofs.Heads.{head_reads, from_next}
 use Rattle.steps.proofs.Standing.{inside, part_drop, part_test, part_set, sum_below, not_below, table_below}
 use Rattle.steps.proofs.Changes.{below_one, below_small, times_one, becomes}
@@ -68,11 +71,11 @@ module _ {s w : List ℕ} {n i code : ℕ} (h : Entering s w n i code) where
   slim_at e = rw e h.slim
 
   pub enter_set : HasSet w i (header_at w i).count
-  enter_set = record { there = h.there; slim = h.slim; rises = h.rises; area = h.area }
+  enter_set = record { there = h.there; slim = h.slim; rises = h.rises }
 
   pub leaf_turned : {v u : List ℕ} {k : ℕ} → 0 < code → code < 4 → Filled w v i k (out (part_at s w i) (set_at w i))
       → Headed v u i (finished_head (header_at w i).up k)
-      → (f : ℕ) → Turned s w u n n (i ∷ []) (header_at w i).up i (entering s w i f) nobody nobody
+      → (f : ℕ) → Turned s w u n n (i ∷ []) (header_at w i).up i (entering s w i f) Nobody
   leaf_turned {v} {u} {k} lo hi g b f =
       let X : Packets = out (part_at s w i) (set_at w i) in
       let e : done X ≡ entering s w i f = sym (enter_leaf s (header_at w i).place code (spot_at w i f) (set_at w i) h.reads lo hi) in
@@ -148,10 +151,9 @@ module _ (s w : List ℕ) (n i : ℕ) (h : Entering s w n i 5) where
       room = omega (arith, sum_live, sum_room, some_right);
       source = h.there;
       slim = h.slim;
-      area = h.area;
     }
 
-    module _ (v₁ : List ℕ) (m₁ a : ℕ) (L : (f : ℕ) → Laid s w v₁ (n - 2) m₁ l i (at + 1) i count a f) where
+    module _ (v₁ : List ℕ) (m₁ : ℕ) (a : Option ℕ) (L : (f : ℕ) → Laid s w v₁ (n - 2) m₁ l i (at + 1) i count a f) where
       own_apart : times i ((l ∷ []) ++ free_list w (n - 2)) ≡ 0
       own_apart =
           omega (arith, times_append i (l ∷ []) (free_list w (n - 2)), free_both i, h.once i, below_one i, times_one i i, same_self i)
@@ -169,17 +171,14 @@ module _ (s w : List ℕ) (n i : ℕ) (h : Entering s w n i 5) where
         room = rw rows_kept (omega (arith, sum_live, sum_room, (L 0).makes.size, live_foot (L 0).makes.net, ap live (L 0).makes.bare));
         source = h.there;
         slim = h.slim;
-        area = omega (arith, h.area, (L 0).makes.else.long);
       }
 
-      pub sum_turned : (v₂ v₃ : List ℕ) (m₂ b z y : ℕ) → ((f : ℕ) → Laid s v₁ v₂ m₁ m₂ r i q i count b f)
-          → Headed v₂ v₃ i (record { place = at; phase = entered_phase; count = 0; up = (header_at w i).up; left = l; right = r })
-          → z ≡ cond (eqb a nobody) (cond (eqb b nobody) i b) a → y ≡ cond (eqb a nobody) nobody b
-          → (f : ℕ) → Turned s w v₃ n m₂ (i ∷ []) (header_at w i).up i (entering s w i f) z y
+      pub sum_turned : (v₂ v₃ : List ℕ) (m₂ : ℕ) (b : Option ℕ) → ((f : ℕ) → Laid s v₁ v₂ m₁ m₂ r i q i count b f)
+          → Headed v₂ v₃ i (record { place = at; phase = Entered; count = 0; up = (header_at w i).up; left = l; right = r })
+          → (f : ℕ) → Turned s w v₃ n m₂ (i ∷ []) (header_at w i).up i (entering s w i f) (two_ready i a b)
       unfolding join_of
-      sum_turned v₂ v₃ m₂ b z y R H ez ey f =
-          let T = two_turned h.there sum_room h.once top next (L f).makes (R f).makes H (omega arith) refl refl a b z y (L f).offer
-          (R f).offer ez ey in
+      sum_turned v₂ v₃ m₂ b R H f =
+          let T = two_turned h.there sum_room h.once top next (L f).makes (R f).makes H refl refl refl a b (L f).offer (R f).offer in
           rw (rows_kept, ← (sum_tree f)) at T
 
 -- ---- not a
@@ -217,14 +216,13 @@ module _ (s w : List ℕ) (n i : ℕ) (h : Entering s w n i 4) where
       room = omega (arith, not_live, not_room);
       source = h.there;
       slim = h.slim;
-      area = h.area;
     }
 
-    pub not_turned : (v u : List ℕ) (m a z : ℕ) → ((f : ℕ) → Laid s w v (n - 1) m c i (place_of + 1) i (header_at w i).count a f)
+    pub not_turned : (v u : List ℕ) (m : ℕ) (a z : Option ℕ) → ((f : ℕ) → Laid s w v (n - 1) m c i (place_of + 1) i (header_at w i).count a f)
         → Headed v u i
-        (record { place = place_of; phase = negated_phase; count = (header_at w i).count; up = (header_at w i).up; left = c; right = 0 })
-        → z ≡ cond (eqb a nobody) i a
-        → (f : ℕ) → Turned s w u n m (i ∷ []) (header_at w i).up i (entering s w i f) z nobody
+        (record { place = place_of; phase = Negated; count = (header_at w i).count; up = (header_at w i).up; left = c; right = 0 })
+        → z ≡ option_or a (Some i)
+        → (f : ℕ) → Turned s w u n m (i ∷ []) (header_at w i).up i (entering s w i f) (ready_of z)
     not_turned v u m a z L H e f =
         rw (← (not_tree f)) at (one_turned h.there not_room h.once top (L f).makes H (L f).offer e)
 
@@ -246,17 +244,16 @@ module _ (s w : List ℕ) (n i : ℕ) (h : Entering s w n i 8) (b : Readable s) 
     room = rw (table_tree 0) at h.room;
     source = h.there;
     slim = h.slim;
-    area = h.area;
   }
 
-  pub table_turned : (v : List ℕ) (m r : ℕ) → ((f : ℕ) → Laid s w v n m i (header_at w i).up start i (header_at w i).count r f)
-      → (f : ℕ) → Turned s w v n m (i ∷ []) (header_at w i).up i (entering s w i f) r nobody
+  pub table_turned : (v : List ℕ) (m : ℕ) (r : Option ℕ) → ((f : ℕ) → Laid s w v n m i (header_at w i).up start i (header_at w i).count r f)
+      → (f : ℕ) → Turned s w v n m (i ∷ []) (header_at w i).up i (entering s w i f) (ready_of r)
   table_turned v m r L f =
       let T : Turned s w v n m (i ∷ []) (header_at w i).up i (place (record {
         at =
             start;
         fields = f;
-      }) (part_of s start) (set_at w i)) r nobody =
+      }) (part_of s start) (set_at w i)) (ready_of r) =
       record { makes = (L f).makes; offer = one_offer (L f).offer } in
       rw (← (table_tree f)) at T
 

@@ -2,11 +2,8 @@
 use Prim.Native.Nat.{ℕ, ◌+◌, ◌-◌, ◌≤◌, ◌<◌}
 use native.Mathlib.Omega.{arith}
 use mathlib.Core.Path.{◌≡◌, refl, sym, ap, ◌∙◌}
-use mathlib.Core.Bool.{cond}
 use mathlib.Core.Logic.{inl}
 use mathlib.Core.List.{List, [], ◌∷◌, ◌++◌}
-use lib.Dec.{eqb}
-use borrow.Author.Tests.{ne_eqb}
 use lib.ListN.{get_or}
 use Rattle.rules.specs.Packets.{Packets}
 use Rattle.rules.specs.Parts.{size}
@@ -23,7 +20,10 @@ use Rattle.links.proofs.Times.{same_self, times_append}
 use Rattle.steps.proofs.Changes.{below_one, below_small, times_one, headed_slots, headed_spares, headed_free, headed_ready}
 use Rattle.steps.proofs.Changes.{spares_then, spares_wider, in_none}
 use Rattle.area.specs.declared.headers.Header.{Header}
-use Rattle.area.specs.Words.{positions, row_words, nobody, placed_phase, finished_phase, waiting_phase, header_at, slot_at, rows_at, free_list}
+use Rattle.std.specs.Option.{option_or}
+use Rattle.std.specs.Prelude.{Option, Some, None}
+use Rattle.area.specs.declared.headers.Phase.TheVariants.{Placed, Finished, Waiting}
+use Rattle.area.specs.Words.{positions, row_words, header_at, slot_at, rows_at, free_list}
 use Rattle.area.specs.Words.{Headed}
 use Rattle.steps.specs.State.{shown_by, shown, Showing, below, Becomes, Offers, ended, offers, Laying, Laid}
 use Rattle.rules.specs.Books.{most_bytes}
@@ -53,8 +53,8 @@ module _ (s w v : List ℕ) (n i up at src count f : ℕ) where
   rows_there e b = rw e (rw (length_chunks row_words count (slot_at w src)) at b.rows)
 
   pub laid_id : get_or s at 0 ≡ 0 → n ≤ positions
-      → Becomes w v i (record { place = at; phase = finished_phase; count = count; up = up; left = 0; right = 0 }) (rows_at w src count)
-      → Laid s w v n n i up at src count nobody f
+      → Becomes w v i (record { place = at; phase = Finished; count = count; up = up; left = 0; right = 0 }) (rows_at w src count)
+      → Laid s w v n n i up at src count None f
   unfolding place bare root AllShow foot is_over shown_by
   laid_id z l b = record {
     makes = record {
@@ -72,8 +72,8 @@ module _ (s w v : List ℕ) (n i up at src count f : ℕ) where
 
   -- it rests there
   pub laid_rest : Runnable s at → (get_or s at 0 ≡ 0 → ⊥) → (get_or s at 0 ≡ 6 → ⊥) → i < positions → n ≤ positions
-      → Becomes w v i (record { place = at; phase = placed_phase; count = count; up = up; left = 0; right = 0 }) (rows_at w src count)
-      → Laid s w v n n i up at src count i f
+      → Becomes w v i (record { place = at; phase = Placed; count = count; up = up; left = 0; right = 0 }) (rows_at w src count)
+      → Laid s w v n n i up at src count (Some i) f
   unfolding bare root AllShow foot is_over ready_of shown_by
   laid_rest h n0 n6 li l b = record {
     makes = record {
@@ -86,17 +86,15 @@ module _ (s w v : List ℕ) (n i up at src count f : ℕ) where
       else = spares_wider ((i ∷ []) ++ free_list w n) (λ k z. (in_none k (i ∷ []) (free_list w n) z).0) b.spares;
       ready = b.ready;
     };
-    offer = offers refl refl li;
+    offer = offers i refl refl li refl;
   }
 
 -- a position above one other is ready where that is finished
-pub above_offer : (i : ℕ) (o : Hold) (x : Net) (r r' : ℕ) → i < positions → Offers x r → r' ≡ cond (eqb r nobody) i r
+pub above_offer : (i : ℕ) (o : Hold) (x : Net) (r r' : Option ℕ) → i < positions → Offers x r → r' ≡ option_or r (Some i)
     → Offers (one i o x) r'
 unfolding is_over ready_of
-above_offer i o x r r' li (ended e z) d = offers refl (rw (e, d, z)) (rw (d, z) li)
-above_offer i o x r r' li (offers e z l) d =
-    let g : r' ≡ r = rw (d, ne_eqb r nobody (λ k. omega arith)) in
-    offers refl (rw (e, g) z) (rw g l)
+above_offer i o x r r' li (ended e n) d = offers i refl (rw e) li (rw n at d)
+above_offer i o x r r' li (offers a e z l k) d = offers a refl (rw e z) l (rw k at d)
 
 -- a sequence
 module _ (s w : List ℕ) (n i at src count : ℕ) (h : Laying s w n i at src count) (six : get_or s at 0 ≡ 6) where
@@ -130,7 +128,7 @@ seq_marked h six k e = e ∙ k.ends _ (seq_below h.stands six).1.left
 module _ (s w v : List ℕ) (n i up at src count c q : ℕ) (h : Laying s w n i at src count) (six : get_or s at 0 ≡ 6)
     (top : free_list w n ≡ free_list w (n - 1) ++ (c ∷ []))
     (next : q ≡ after s most_depth (at + 1))
-    (head : Headed w v i (record { place = q; phase = waiting_phase; count = 0; up = up; left = c; right = 0 })) where
+    (head : Headed w v i (record { place = q; phase = Waiting; count = 0; up = up; left = c; right = 0 })) where
   room : 0 < n
   room = seq_room s w n i at src count h six
 
@@ -171,10 +169,10 @@ module _ (s w v : List ℕ) (n i up at src count c q : ℕ) (h : Laying s w n i 
     room = rw rows_kept (omega (arith, room, h.room, ap live (seq_place s w n i at src count h six 0 (rows_at w src count))));
     source = h.source;
     slim = h.slim;
-    area = omega (arith, h.area, head.out.long);
   }
 
-  pub laid_seq : (u : List ℕ) (m r r' f : ℕ) → Laid s v u (n - 1) m c i (at + 1) src count r f → r' ≡ cond (eqb r nobody) i r
+  pub laid_seq : (u : List ℕ) (m : ℕ) (r r' : Option ℕ) (f : ℕ) → Laid s v u (n - 1) m c i (at + 1) src count r f
+      → r' ≡ option_or r (Some i)
       → Laid s w u n m i up at src count r' f
   unfolding bare above root AllShow foot node_of times shown_by
   laid_seq u m r r' f d e =
@@ -192,7 +190,7 @@ module _ (s w v : List ℕ) (n i up at src count c q : ℕ) (h : Laying s w n i 
           count = λ k. omega (arith, M.count k, free_times k, ap (times k) fv);
           size = omega (arith, M.size, room);
           else = spares_then ((i ∷ []) ++ free_list w n)
-              (λ k z. let g = in_none k (i ∷ []) (free_list w n) z in
+              (λ k y. let g = in_none k (i ∷ []) (free_list w n) y in
               (g.0, omega (arith, times_append k (c ∷ []) (free_list v (n - 1)), free_times k, ap (times k) fv, g.1)))
               (headed_spares h.there head) M.else;
           ready = M.ready ∙ headed_ready h.there head;

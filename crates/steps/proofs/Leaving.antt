@@ -1,6 +1,6 @@
 -- The step of a position whose positions below are finished: what its function asks of those that it calls, and that the words then hold
 -- what the rules' step makes.
-use Prim.Native.Nat.{ℕ, zero, suc, ◌+◌, ◌-◌, ◌≤◌, ◌<◌}
+use Prim.Native.Nat.{ℕ, ◌+◌, ◌≤◌, ◌<◌}
 use native.Mathlib.Omega.{arith}
 use mathlib.Core.Path.{◌≡◌, refl, ap, ◌∙◌}
 use mathlib.Core.List.{List, [], ◌∷◌}
@@ -10,7 +10,12 @@ use Rattle.rules.specs.States.{done, join, place}
 use Rattle.rows.specs.Chunks.{chunks}
 use Rattle.links.specs.Nets.{same, times}
 use Rattle.links.proofs.Times.{same_self, times_append}
-use Rattle.area.specs.Words.{positions, row_words, area_words, nobody, entered_phase, paired_phase, header_at, finished_head, slot_at, rows_at}
+use Rattle.std.specs.Prelude.{Option}
+use Rattle.area.specs.declared.headers.Phase.{Phase}
+use Rattle.area.specs.declared.headers.Phase.TheVariants.{Placed, Finished, Waiting, Negated, Entered, Split, Paired}
+use Rattle.area.specs.declared.lists.Ready.TheVariants.{Nobody}
+use Rattle.area.specs.Ready.{ready_of}
+use Rattle.area.specs.Words.{positions, row_words, header_at, finished_head, slot_at, rows_at}
 use Rattle.area.specs.Words.{free_list}
 use Rattle.area.specs.Words.{Headed, Given, Filled, HasSet, Three}
 use Rattle.rules.specs.Reading.{head}
@@ -43,16 +48,15 @@ module _ {s w : List ℕ} {n i c : ℕ} (h : Taking s w n i c) where
       room = rw next_rows (omega (arith, h.room));
       source = next_small.1;
       slim = h.slim;
-      area = omega (arith, h.area, g.out.long);
     }
 
-    pub next_turned : {u : List ℕ} {m r : ℕ}
+    pub next_turned : {u : List ℕ} {m : ℕ} {r : Option ℕ}
         → ((f : ℕ) → Laid s v u (n + 1) m i (header_at w i).up (header_at w i).place c (header_at w c).count r f)
-        → (f : ℕ) → Turned s w u n m (i ∷ c ∷ []) (header_at w i).up i (place (spot_at w i f) (part_at s w i) (set_at w c)) r nobody
+        → (f : ℕ) → Turned s w u n m (i ∷ c ∷ []) (header_at w i).up i (place (spot_at w i f) (part_at s w i) (set_at w c)) (ready_of r)
     unfolding times after_given rebase
     next_turned {u} {m} {r} d f =
         let T : Turned s w u n m (i ∷ c ∷ []) (header_at w i).up i
-        (place (spot_at w i f) (part_at s w i) (rows_at v c (header_at w c).count)) r nobody =
+        (place (spot_at w i f) (part_at s w i) (rows_at v c (header_at w c).count)) (ready_of r) =
         record { makes = after_given h.few g (d f).makes (λ k. rw h.below (omega arith)) refl; offer = one_offer (d f).offer } in
         rw next_rows at T
 
@@ -81,16 +85,15 @@ module _ {w : List ℕ} {n i c : ℕ} (h : Lacking w n i c) where
     still_below = (given_spares h.few g).slots c lack_small.1 refl
 
     pub lack_sets : HasSet v i (header_at w i).count × HasSet v c (header_at w c).count
-    lack_sets =
-        let room : area_words ≤ length v = omega (arith, h.area, g.out.long) in (
-          record { there = lack_small.0; slim = h.slim_own; rises = rw still_own h.rises_own; area = room },
-          record { there = lack_small.1; slim = h.slim_below; rises = rw still_below h.rises_below; area = room },
-        )
+    lack_sets = (
+      record { there = lack_small.0; slim = h.slim_own; rises = rw still_own h.rises_own },
+      record { there = lack_small.1; slim = h.slim_below; rises = rw still_below h.rises_below },
+    )
 
     pub lack_turned : {v₁ u : List ℕ} {k : ℕ}
         → Filled v v₁ i k (keep (lacks (rows_at v c (header_at w c).count)) (rows_at v i (header_at w i).count))
         → Headed v₁ u i (finished_head (header_at w i).up k)
-        → (s : List ℕ) → Turned s w u n (n + 1) (i ∷ c ∷ []) (header_at w i).up i (done (lacking w i c)) nobody nobody
+        → (s : List ℕ) → Turned s w u n (n + 1) (i ∷ c ∷ []) (header_at w i).up i (done (lacking w i c)) Nobody
     unfolding times
     lack_turned {v₁} {u} {k} f b s =
         let f' : Filled v v₁ i k (lacking w i c) = rw (still_own, still_below) at f in
@@ -99,25 +102,19 @@ module _ {w : List ℕ} {n i c : ℕ} (h : Lacking w n i c) where
 
 -- ---- two finished positions joined
 
-pub join_low : (s : List ℕ) (phase at : ℕ) (S T : Packets) → entered_phase ≤ phase → phase < paired_phase
-    → join (join_of s (phase - entered_phase) at) S T ≡ union S T
+pub join_paired : (s : List ℕ) (at : ℕ) (S T : Packets) → join (join_of s Paired at) S T ≡ pairs (head s at).right S T
 unfolding join join_of
-join_low s phase at S T l h = go (phase - entered_phase) (omega arith)
-  where
-    go : (k : ℕ) → k < 2 → join (join_of s k at) S T ≡ union S T
-    go zero h = refl
-    go (suc zero) h = refl
-    go (suc (suc k)) h = absurd (omega arith)
+join_paired s at S T = refl
 
-pub join_high : (s : List ℕ) (phase at : ℕ) (S T : Packets) → paired_phase ≤ phase
-    → join (join_of s (phase - entered_phase) at) S T ≡ pairs (head s at).right S T
+pub join_other : (s : List ℕ) (phase : Phase) (at : ℕ) (S T : Packets) → (phase ≡ Paired → ⊥) → join (join_of s phase at) S T ≡ union S T
 unfolding join join_of
-join_high s phase at S T h = go (phase - entered_phase) (omega arith)
-  where
-    go : (k : ℕ) → 2 ≤ k → join (join_of s k at) S T ≡ pairs (head s at).right S T
-    go zero h = absurd (omega arith)
-    go (suc zero) h = absurd (omega arith)
-    go (suc (suc k)) h = refl
+join_other s Placed at S T n = refl
+join_other s Finished at S T n = refl
+join_other s Waiting at S T n = refl
+join_other s Negated at S T n = refl
+join_other s Entered at S T n = refl
+join_other s Split at S T n = refl
+join_other s Paired at S T n = absurd (n refl)
 
 module _ {s w : List ℕ} {n i l r : ℕ} (h : Joining s w n i l r) where
   pub both_small : (i < positions) × (l < positions) × (r < positions)
@@ -144,17 +141,16 @@ module _ {s w : List ℕ} {n i l r : ℕ} (h : Joining s w n i l r) where
     pub both_three : Three v₂ i l r (header_at w l).count (header_at w r).count
     unfolding times
     both_three =
-        let room : area_words ≤ length v₂ = omega (arith, h.area, g₁.out.long, g₂.out.long) in
         record {
-          first = record { there = both_small.1; slim = h.slim_first; rises = rw left_set h.rises_first; area = room };
-          second = record { there = both_small.2; slim = h.slim_second; rises = rw right_set h.rises_second; area = room };
+          first = record { there = both_small.1; slim = h.slim_first; rises = rw left_set h.rises_first };
+          second = record { there = both_small.2; slim = h.slim_second; rises = rw right_set h.rises_second };
           there = both_small.0;
           left = λ z. omega (arith, h.once i, below_one i, same_self i, ap (same i) z);
           right = λ z. omega (arith, h.once i, below_one i, same_self i, ap (same i) z);
         }
 
     abbrev joined : Packets
-    joined = join (join_of s ((header_at w i).phase - entered_phase) (header_at w i).place) (rows_at v₂ l (header_at w l).count)
+    joined = join (join_of s (header_at w i).phase (header_at w i).place) (rows_at v₂ l (header_at w l).count)
         (rows_at v₂ r (header_at w r).count)
 
     both_joins : joined ≡ joining s w i l r
@@ -165,7 +161,7 @@ module _ {s w : List ℕ} {n i l r : ℕ} (h : Joining s w n i l r) where
 
     module _ {v₃ : List ℕ} {c : ℕ} (f : Filled v₂ v₃ i c joined) where
       pub both_turned : {v₄ : List ℕ} → Headed v₃ v₄ i (finished_head (header_at w i).up c)
-          → Turned s w v₄ n (n + 2) (i ∷ l ∷ r ∷ []) (header_at w i).up i (done (joining s w i l r)) nobody nobody
+          → Turned s w v₄ n (n + 2) (i ∷ l ∷ r ∷ []) (header_at w i).up i (done (joining s w i l r)) Nobody
       unfolding times
       both_turned {v₄} k =
           let z : n + 1 + 1 ≡ n + 2 = omega arith in

@@ -1,11 +1,9 @@
 -- The steps: one finished position, numbers given back, two positions below one.
-use Prim.Native.Nat.{ℕ, zero, suc, ◌+◌, ◌-◌, ◌≤◌, ◌<◌}
+use Prim.Native.Nat.{ℕ, ◌+◌, ◌-◌, ◌≤◌, ◌<◌}
 use native.Mathlib.Omega.{arith}
 use mathlib.Core.Path.{◌≡◌, refl, ap, ◌∙◌}
-use mathlib.Core.Bool.{true, false, cond, false≢true}
+use mathlib.Core.Bool.{true, false≢true}
 use mathlib.Core.List.{List, [], ◌∷◌, ◌++◌}
-use lib.Dec.{eqb}
-use borrow.Author.Tests.{ne_eqb}
 use lib.ListN.{length, length-append}
 use Rattle.rules.specs.Packets.{Packets}
 use Rattle.rules.specs.States.{Tree, Join, done, both, negated}
@@ -20,9 +18,15 @@ use Rattle.steps.proofs.Changes.{given_ready}
 use Rattle.steps.proofs.Changes.{spares_then, spares_wider, in_none}
 use Rattle.steps.proofs.Laying.{shows, above_offer}
 use Rattle.area.specs.declared.headers.Header.{Header}
-use Rattle.area.specs.Words.{positions, row_words, nobody, negated_phase, entered_phase, slot_at, rows_at, ready_list, free_list, Headed, Given}
+use Rattle.std.specs.Option.{option_or}
+use Rattle.std.specs.Prelude.{Option, Some}
+use Rattle.area.specs.declared.headers.Phase.{Phase}
+use Rattle.area.specs.declared.headers.Phase.TheVariants.{Placed, Finished, Waiting, Negated, Entered, Split, Paired}
+use Rattle.area.specs.declared.lists.Ready.TheVariants.{Nobody}
+use Rattle.area.specs.Ready.{ready_of as ready_from_option}
+use Rattle.area.specs.Words.{positions, row_words, is_above, slot_at, rows_at, ready_list, free_list, Headed, Given}
 use Rattle.steps.specs.State.{shown_by, Showing, showing, below, Once, Spares, Makes, Becomes, Offers, ended, offers, Offers₂, ended₂}
-use Rattle.steps.specs.State.{offers₁, offers₂, Turned}
+use Rattle.steps.specs.State.{offers₁, offers₂, two_ready, Turned}
 
 -- what is not touched goes on showing
 pub still : {s w v : List ℕ} {a : List ℕ} {up : ℕ} {x : Node} → Spares w v a → (k : ℕ) → (times k a ≡ 0) × (k < positions)
@@ -65,7 +69,7 @@ after_given {w = w} {n = n} {c = c} l g M e d =
 
 -- ---- one finished position
 
-pub over_made : (s w v : List ℕ) (n i up : ℕ) (h : Header) (x : Packets) → n ≤ positions → h.phase ≡ 1 → h.count ≡ length x → h.up ≡ up
+pub over_made : (s w v : List ℕ) (n i up : ℕ) (h : Header) (x : Packets) → n ≤ positions → h.phase ≡ Finished → h.count ≡ length x → h.up ≡ up
     → Becomes w v i h x
     → Makes s w v n n (i ∷ []) up i (done x)
 unfolding bare root AllShow foot is_over shown_by
@@ -89,14 +93,14 @@ ends (one i (keeps k) n) x e = let z : ◌≡◌ {A = ℕ} 0 1 = cc in absurd (o
 ends (two i j n m) x e = let z : ◌≡◌ {A = ℕ} 0 1 = cc in absurd (omega arith)
 
 pub over_turned : {s w v : List ℕ} {n m up i : ℕ} {a : List ℕ} {x : Packets} → Makes s w v n m a up i (done x)
-    → Turned s w v n m a up i (done x) nobody nobody
-over_turned {x = x} M = record { makes = M; offer = ended₂ (ends M.net x M.bare) refl refl }
+    → Turned s w v n m a up i (done x) Nobody
+over_turned {x = x} M = record { makes = M; offer = ended₂ (ends M.net x M.bare) refl }
 
 -- ---- a net as it was laid
 
-pub one_offer : {x : Net} {r : ℕ} → Offers x r → Offers₂ x r nobody
-one_offer (ended e z) = ended₂ e z refl
-one_offer (offers e z l) = offers₁ e z l refl
+pub one_offer : {x : Net} {r : Option ℕ} → Offers x r → Offers₂ x (ready_from_option r)
+one_offer (ended e z) = ended₂ e (rw z refl)
+one_offer (offers a e z l k) = offers₁ a e z l (rw k refl)
 
 -- ---- two positions below one
 
@@ -108,29 +112,27 @@ over_ready (one i h n) e = absurd (false≢true e)
 over_ready (two i j n m) e = absurd (false≢true e)
 
 -- what two nets offer, with the number above them
-pub two_offer : (i : ℕ) (j : Join) (x y : Net) (a b r q : ℕ) → i < positions → Offers x a → Offers y b
-    → r ≡ cond (eqb a nobody) (cond (eqb b nobody) i b) a → q ≡ cond (eqb a nobody) nobody b → Offers₂ (two i j x y) r q
+pub two_offer : (i : ℕ) (j : Join) (x y : Net) (a b : Option ℕ) → i < positions → Offers x a → Offers y b
+    → Offers₂ (two i j x y) (two_ready i a b)
 unfolding is_over ready_of
-two_offer i j x y a b r q l (ended e z) (ended d k) er eq =
-    offers₁ refl (rw (e, d) (rw (er, z, k) refl)) (rw (er, z, k) l) (rw (eq, z) refl)
-two_offer i j x y a b r q l (ended e z) (offers d k m) er eq =
-    let n : eqb b nobody ≡ false = ne_eqb b nobody (λ c. omega arith) in
-    offers₁ refl (rw (e, d, over_ready x e, k) (rw (er, z, n) refl)) (rw (er, z, n) m) (rw (eq, z) refl)
-two_offer i j x y a b r q l (offers e z m) (ended d k) er eq =
-    let n : eqb a nobody ≡ false = ne_eqb a nobody (λ c. omega arith) in
-    offers₁ refl (rw (e, z, over_ready y d) (rw (er, n) refl)) (rw (er, n) m) (rw (eq, n) k)
-two_offer i j x y a b r q l (offers e z m) (offers d k o) er eq =
-    let n : eqb a nobody ≡ false = ne_eqb a nobody (λ c. omega arith) in
-    offers₂ refl (rw (e, z, k) (rw (er, eq, n) refl)) (rw (er, n) m) (rw (eq, n) o)
+two_offer i j x y a b l (ended e z) (ended d k) = offers₁ i refl (rw (e, d)) l (rw (z, k) refl)
+two_offer i j x y a b l (ended e z) (offers q d k m c) =
+    offers₁ q refl (rw (e, d, over_ready x e, k) refl) m (rw (z, c) refl)
+two_offer i j x y a b l (offers p e z m c) (ended d k) =
+    offers₁ p refl (rw (e, z, over_ready y d) refl) m (rw (c, k) refl)
+two_offer i j x y a b l (offers p e z m c) (offers q d k o g) =
+    offers₂ p q refl (rw (e, z, k) refl) m o (rw (c, g) refl)
 
-shown_two : (s : List ℕ) (p : ℕ) (h : Header) (x : Packets) → 4 ≤ p
-    → shown_by s p h x ≡ Two (join_of s (p - 4) h.place) h.left h.right
+shown_two : (s : List ℕ) (p : Phase) (h : Header) (x : Packets) → is_above p ≡ true
+    → shown_by s p h x ≡ Two (join_of s p h.place) h.left h.right
 unfolding shown_by
-shown_two s zero h x l = absurd (omega arith)
-shown_two s (suc zero) h x l = absurd (omega arith)
-shown_two s (suc (suc zero)) h x l = absurd (omega arith)
-shown_two s (suc (suc (suc zero))) h x l = absurd (omega arith)
-shown_two s (suc (suc (suc (suc k)))) h x l = let e : suc (suc (suc (suc k))) - 4 ≡ k = omega arith in rw e
+shown_two s Placed h x l = absurd (false≢true l)
+shown_two s Finished h x l = absurd (false≢true l)
+shown_two s Waiting h x l = absurd (false≢true l)
+shown_two s Negated h x l = absurd (false≢true l)
+shown_two s Entered h x l = refl
+shown_two s Split h x l = refl
+shown_two s Paired h x l = refl
 
 module _ {s w v₁ v₂ v₃ : List ℕ} {n m₁ m₂ i l r : ℕ} {tl tr : Tree} {h : Header} (li : i < positions) (few : 2 ≤ n)
     (once : Once (i ∷ []) (free_list w n)) (top : free_list w n ≡ free_list w (n - 1) ++ (l ∷ []))
@@ -173,15 +175,14 @@ module _ {s w v₁ v₂ v₃ : List ℕ} {n m₁ m₂ i l r : ℕ} {tl tr : Tree
       let b = below_one k in
       (omega arith, below_small k (omega arith))
 
-  pub two_turned : entered_phase ≤ h.phase → h.left ≡ l → h.right ≡ r → (a b z y : ℕ) → Offers L.net a → Offers R.net b
-      → z ≡ cond (eqb a nobody) (cond (eqb b nobody) i b) a → y ≡ cond (eqb a nobody) nobody b
-      → Turned s w v₃ n m₂ (i ∷ []) h.up i (both (join_of s (h.phase - entered_phase) h.place) tl tr) z y
+  pub two_turned : is_above h.phase ≡ true → h.left ≡ l → h.right ≡ r → (a b : Option ℕ) → Offers L.net a → Offers R.net b
+      → Turned s w v₃ n m₂ (i ∷ []) h.up i (both (join_of s h.phase h.place) tl tr) (two_ready i a b)
   unfolding bare root AllShow foot times
-  two_turned p el er a b z y oa ob ez ey =
+  two_turned p el er a b oa ob =
       let fv = headed_free li H m₂ in
       record {
         makes = record {
-          net = two i (join_of s (h.phase - entered_phase) h.place) L.net R.net;
+          net = two i (join_of s h.phase h.place) L.net R.net;
           bare = rw (L.bare, R.bare);
           root = refl;
           held = (
@@ -202,19 +203,19 @@ module _ {s w v₁ v₂ v₃ : List ℕ} {n m₁ m₂ i l r : ℕ} {tl tr : Tree
               (headed_spares li H);
           ready = headed_ready li H ∙ R.ready ∙ L.ready;
         };
-        offer = two_offer i (join_of s (h.phase - entered_phase) h.place) L.net R.net a b z y li oa ob ez ey;
+        offer = two_offer i (join_of s h.phase h.place) L.net R.net a b li oa ob;
       }
 
 -- ---- one position below another
 
-pub one_turned : {s w v u : List ℕ} {n m i c a z up pl count : ℕ} {t : Tree} → i < positions → 1 ≤ n → Once (i ∷ []) (free_list w n)
+pub one_turned : {s w v u : List ℕ} {n m i c up pl count : ℕ} {a z : Option ℕ} {t : Tree} → i < positions → 1 ≤ n → Once (i ∷ []) (free_list w n)
     → free_list w n ≡ free_list w (n - 1) ++ (c ∷ [])
     → (L : Makes s w v (n - 1) m (c ∷ []) i c t)
-    → Headed v u i (record { place = pl; phase = negated_phase; count = count; up = up; left = c; right = 0 })
-    → Offers L.net a → z ≡ cond (eqb a nobody) i a
-    → Turned s w u n m (i ∷ []) up i (negated (rows_at w i count) t) z nobody
+    → Headed v u i (record { place = pl; phase = Negated; count = count; up = up; left = c; right = 0 })
+    → Offers L.net a → z ≡ option_or a (Some i)
+    → Turned s w u n m (i ∷ []) up i (negated (rows_at w i count) t) (ready_from_option z)
 unfolding bare above root AllShow foot node_of times shown_by is_over
-one_turned {s} {w} {v} {u} {n} {m} {i} {c} {a} {z} {up} {pl} {count} {t} li few once top L H o ez =
+one_turned {s} {w} {v} {u} {n} {m} {i} {c} {up} {pl} {count} {a} {z} {t} li few once top L H o ez =
     let X : Packets = rows_at w i count in
     let ft : (k : ℕ) → times k (free_list w n) ≡ times k (free_list w (n - 1)) + times k (c ∷ []) =
     λ k. ap (times k) top ∙ times_append k (free_list w (n - 1)) (c ∷ []) in

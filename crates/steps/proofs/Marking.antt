@@ -15,7 +15,7 @@ use Rattle.rules.specs.Reading.{skip, after, head, head_at}
 use Rattle.rules.proofs.ReadingLaws.{head_is, row_small}
 use Rattle.rules.proofs.Decoding.{size_positive}
 use Rattle.book.proofs.PlaceLaws.{parts_few, after_none}
-use Rattle.steps.specs.Standing.{part_of, Runnable, end_by, Marked}
+use Rattle.steps.specs.Standing.{part_of, Runnable, end_by}
 use Rattle.steps.proofs.Standing.{Two, inside, ends_at, code_small, not_below, sum_below, seq_below, beside_below}
 
 -- ---- the word made at a place
@@ -107,27 +107,13 @@ module _ (s m : List ℕ) (at : ℕ) (h : Runnable s at) (known : (p : ℕ) → 
 -- ---- the loop
 
 -- from place `at` on the table is right
-pub record Marking (s m₀ m : List ℕ) (at : ℕ) : Type 0 where
-  pub long : length m ≡ length m₀
-  pub upto : at ≤ length s
-  pub ends : (p : ℕ) → at ≤ p → Runnable s p → get_or m p 0 ≡ after s most_depth p
+abbrev pub MarkedFrom : List ℕ → List ℕ → ℕ → Type 0
+MarkedFrom s m at = (p : ℕ) → at ≤ p → Runnable s p → get_or m p 0 ≡ after s most_depth p
 
-pub marking_start : (s m : List ℕ) → Marking s m m (length s)
-marking_start s m = record { long = refl; upto = omega arith; ends = λ p l h. absurd (omega (arith, inside h)) }
-
-pub marking_next : {s m₀ m m' : List ℕ} {at b e : ℕ} → length s ≤ length m₀ → at ≡ b + 1 → Marking s m₀ m at → e ≡ end_by s m b
-    → m' ≡ set m b e
-    → Marking s m₀ m' b
-marking_next {s} {m₀} {m} {m'} {at} {b} {e} room d k f z = record {
-  long = ap length z ∙ lib.ListN.length-set m b e ∙ k.long;
-  upto = omega (arith, k.upto);
-  ends = λ p l h. rw z (elim (dec_lt b p) [
-    | yes g ↦ get_or-set_other m b p e 0 (λ q. omega arith) ∙ k.ends p (omega arith) h
-    | no n ↦
-        let q : p ≡ b = omega arith in
-        rw q (get_or-set_same m b e 0 (omega (arith, k.long, k.upto)) ∙ f ∙ end_is s m b (rw q at h) (λ r g. k.ends r (omega arith)))
-  ]);
-}
-
-pub marked : {s m₀ m : List ℕ} {at : ℕ} → at ≤ 0 → Marking s m₀ m at → Marked s m
-marked l k = record { ends = λ p h. k.ends p (omega arith) h }
+pub marked_next : {s : List ℕ} {at b e : ℕ} (m : List ℕ) → b < length m → at ≡ b + 1 → MarkedFrom s m at → e ≡ end_by s m b → MarkedFrom s (set m b e) b
+marked_next {s} {at} {b} {e} m room d k f = λ p l h. elim (dec_lt b p) [
+  | yes g ↦ get_or-set_other m b p e 0 (λ q. omega arith) ∙ k p (omega arith) h
+  | no n ↦
+      let q : p ≡ b = omega arith in
+      rw q (get_or-set_same m b e 0 room ∙ f ∙ end_is s m b (rw q at h) (λ r g. k r (omega arith)))
+]

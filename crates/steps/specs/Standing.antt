@@ -1,21 +1,23 @@
 -- The book that the machine runs: which part stands at a place, and that the parts below it stand too.
-use Rattle.std.specs.Prelude.{ℕ, zero, suc, ◌≤◌, ◌<◌, ◌≡◌, Bool, false, List, ◌++◌, length, drop, get_or}
+use Rattle.std.specs.Prelude.{ℕ, ◌≤◌, ◌<◌, ◌≡◌, Bool, false, List, ◌++◌, length, drop, get_or}
 use Rattle.std.proofs.Math.Option.{some}
 use Rattle.rules.specs.Parts.{Part, write, names_open}
 use Rattle.rules.specs.Books.{most_fields, most_bytes, most_depth, scope_of, Fine}
 use Rattle.rules.specs.Codes.{parts_of}
 use Rattle.rules.specs.Reading.{fields_of, tables_of, body_start, head, below, skip, after, part_at, body_at, use_at}
+use Rattle.area.specs.declared.headers.Phase.{Phase}
+use Rattle.area.specs.declared.headers.Phase.TheVariants.{Split, Paired}
 use Rattle.rules.specs.States.{Join, entered, split, paired}
 
 -- the part whose code byte is at a place
 unfoldable pub part_of : List ℕ → ℕ → Part
 part_of s at = part_at s (use_at s) most_depth at
 
--- how the two finished positions below become one, from phase 4 on
-unfoldable pub join_of : List ℕ → ℕ → ℕ → Join
-join_of s zero at = entered
-join_of s (suc zero) at = split
-join_of s (suc (suc k)) at = paired (head s at).left (head s at).right
+-- how the two finished positions below become one, by the phase of the one above
+unfoldable pub join_of : List ℕ → Phase → ℕ → Join
+join_of s Split at = split
+join_of s Paired at = paired (head s at).left (head s at).right
+join_of s _ at = entered
 
 -- the part at a place is well formed, written there, and names no unpopulated table
 pub record Runnable (s : List ℕ) (at : ℕ) : Type 0 where

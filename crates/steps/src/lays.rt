@@ -1,42 +1,52 @@
 // A part laid out on free positions: in one position, or, a sequence, in one above its first part.
-ghost use Rattle.std.specs.Prelude.{◌≡◌, cond, ℕ, ◌<◌, ◌≤◌, eqb, length};
+ghost use Rattle.std.specs.Prelude.{ℕ, ◌<◌, ◌≤◌};
 ghost use Rattle.rules.specs.Packets.{most_packets};
-ghost use Rattle.area.specs.Words.{positions, area_words, nobody, rows_at};
+ghost use Rattle.area.specs.Words.{positions, rows_at};
+ghost use Rattle.area.specs.declared.headers.Phase.{Phase};
 ghost use Rattle.steps.specs.Standing.{Marked};
 ghost use Rattle.steps.specs.State.{Becomes, Laying, Laid};
 
 use crate::marks::end_at;
-use area::{FINISHED, NOBODY, PLACED, WAITING, copy_set, put_head, take_free, wide};
+use area::{Header, Phase, Words, copy_packets, put_head, take_free};
 
 // Position i with its header and the first packets of slot `src`.
-pub fn lay_leaf(work: &mut [u16], i: usize, up: u16, at: u16, phase: u16, src: usize, count: usize)
-    requires { (i < positions) × (src < positions) × (count ≤ most_packets) × (area_words ≤ length work.old) }
+pub fn lay_leaf(
+    work: &mut Words,
+    i: usize,
+    up: u16,
+    at: u16,
+    phase: Phase,
+    src: usize,
+    count: usize,
+)
+    requires { (i < positions) × (src < positions) × (count ≤ most_packets) }
     ensures { Becomes work.old work.new i
         (record { place = at; phase = phase; count = count; up = up; left = 0; right = 0 }) (rows_at work.old src count) }
 {
-    copy_set(work, src, i, count);
-    put_head(work, i, at, phase, count as u16, up, 0, 0);
+    copy_packets(work, src, 0, i, count);
+    let h = Header {
+        place: at,
+        phase,
+        count: count as u16,
+        up,
+        left: 0,
+        right: 0,
+    };
+    put_head(work, i, h);
 }
 
-// Free numbers, and the ready position that a placed part offers; nobody where it is finished.
+// Free numbers, and the ready position that a placed part offers; none where it is finished.
 #[derive(Clone, Copy)]
 pub struct Offer {
     pub free: usize,
-    pub ready: usize,
-}
-
-// The ready position of a sequence: its own where the part below is finished.
-pub fn own_or(ready: usize, i: usize) -> usize
-    ensures { result ≡ cond (eqb ready nobody) i ready }
-{
-    if ready == NOBODY { i } else { ready }
+    pub ready: Option<usize>,
 }
 
 // The part at a place laid out at number i below `up`, on the first packets of slot `src`: a sequence gets its position below.
 pub fn lay(
     book: &[u8],
     ends: &[u16],
-    work: &mut [u16],
+    work: &mut Words,
     n: usize,
     i: usize,
     up: u16,
@@ -49,34 +59,47 @@ pub fn lay(
         result.ready f }
 {
     let p = book::head_at(book, at);
-    if p.code == 6 {
-        let c = take_free(work, n);
-        let q = end_at(ends, p.from);
-        put_head(work, i, q, WAITING, 0, up, c, 0);
-        let r = lay(
-            book,
-            ends,
-            work,
-            n - 1,
-            wide(c),
-            i as u16,
-            p.from,
-            src,
-            count,
-        );
-        let ready = own_or(r.ready, i);
-        return Offer {
-            free: r.free,
-            ready,
-        };
+    match p.code {
+        0 => {
+            lay_leaf(work, i, up, at as u16, Phase::Finished, src, count);
+            Offer {
+                free: n,
+                ready: None,
+            }
+        }
+        6 => {
+            let c = take_free(work, n);
+            let h = Header {
+                place: end_at(ends, p.from),
+                phase: Phase::Waiting,
+                count: 0,
+                up,
+                left: c,
+                right: 0,
+            };
+            put_head(work, i, h);
+            let first = lay(
+                book,
+                ends,
+                work,
+                n - 1,
+                c as usize,
+                i as u16,
+                p.from,
+                src,
+                count,
+            );
+            Offer {
+                free: first.free,
+                ready: first.ready.or(Some(i)),
+            }
+        }
+        _ => {
+            lay_leaf(work, i, up, at as u16, Phase::Placed, src, count);
+            Offer {
+                free: n,
+                ready: Some(i),
+            }
+        }
     }
-    if p.code == 0 {
-        lay_leaf(work, i, up, at as u16, FINISHED, src, count);
-        return Offer {
-            free: n,
-            ready: NOBODY,
-        };
-    }
-    lay_leaf(work, i, up, at as u16, PLACED, src, count);
-    Offer { free: n, ready: i }
 }

@@ -1,85 +1,96 @@
 // The step of a position whose positions below are finished: their numbers are given back, and it goes on with their sets.
-ghost use Rattle.std.specs.Prelude.{List, [], ◌∷◌, ℕ, ◌-◌, ◌≤◌, length};
+ghost use Rattle.std.specs.Prelude.{List, [], ◌∷◌, ℕ, ◌≤◌, length};
 ghost use Rattle.rules.specs.Packets.{most_packets};
 ghost use Rattle.rules.specs.States.{place, done, join};
-ghost use Rattle.area.specs.Words.{header_at, rows_at, entered_phase, Filled, Three};
+ghost use Rattle.area.specs.Words.{header_at, rows_at, Filled, Three};
 ghost use Rattle.steps.specs.Standing.{join_of, Marked};
 ghost use Rattle.steps.specs.State.{spot_at, part_at, set_at, Turned, Taking, Joining, joining, lacking, Lacking};
 
 use crate::enters::{Turn, ended};
 use crate::lays::lay;
-use area::{NOBODY, PAIRED, finish, give_back, head, lack_slots, pair_slots, union_slots};
+use area::{Phase, Ready, Words, finish, give_back, head, lack_slots, pair_slots, union_slots};
 
 // p ; q where p is finished: q on p's set, in the sequence's own position; p's is given back.
-pub fn take_next(book: &[u8], ends: &[u16], work: &mut [u16], n: usize, i: usize, c: usize) -> Turn
+pub fn take_next(book: &[u8], ends: &[u16], work: &mut Words, n: usize, i: usize, c: usize) -> Turn
     requires { Taking book.now work.old n i c × Marked book.now ends.now }
     ensures { (f : ℕ) → Turned book.now work.old work.new n result.free (i ∷ c ∷ [])
         (header_at work.old i).up i
         (place (spot_at work.old i f) (part_at book.now work.old i) (set_at work.old c))
-        result.ready result.more }
+        result.ready }
 {
     let h = head(work, i);
     let k = head(work, c);
     give_back(work, n, h.left);
-    let o = lay(book, ends, work, n + 1, i, h.up, h.place, c, k.count);
+    let x = lay(
+        book,
+        ends,
+        work,
+        n + 1,
+        i,
+        h.up,
+        h.place as usize,
+        c,
+        k.count as usize,
+    );
     Turn {
-        free: o.free,
-        ready: o.ready,
-        more: NOBODY,
+        free: x.free,
+        ready: Ready::from(x.ready),
     }
 }
 
 // The set that two finished positions leave, by the phase above them, in slot i. Gives how many packets it has.
 fn join_slots(
     book: &[u8],
-    work: &mut [u16],
+    work: &mut Words,
     i: usize,
     l: usize,
     r: usize,
     a: usize,
     b: usize,
     at: usize,
-    phase: u16,
+    phase: Phase,
 ) -> usize
-    requires { Three work.old i l r a b × (entered_phase ≤ phase)
-        × (length (join (join_of book.now (phase - entered_phase) at) (rows_at work.old l a) (rows_at work.old r b)) ≤ most_packets) }
+    requires { Three work.old i l r a b
+        × (length (join (join_of book.now phase at) (rows_at work.old l a) (rows_at work.old r b)) ≤ most_packets) }
     ensures { Filled work.old work.new i result
-        (join (join_of book.now (phase - entered_phase) at) (rows_at work.old l a) (rows_at work.old r b)) }
+        (join (join_of book.now phase at) (rows_at work.old l a) (rows_at work.old r b)) }
 {
-    if phase < PAIRED {
-        return union_slots(work, i, l, r, a, b);
+    match phase {
+        Phase::Paired => {
+            let p = book::head_at(book, at);
+            pair_slots(work, i, l, r, a, b, p.right as u16)
+        }
+        _ => union_slots(work, i, l, r, a, b),
     }
-    let p = book::head_at(book, at);
-    pair_slots(work, i, l, r, a, b, p.right as u16)
 }
 
 // p + q, a split or the two sides of a concurrent part, where both are finished: their set in the upper position.
-pub fn leave_both(book: &[u8], work: &mut [u16], n: usize, i: usize, l: usize, r: usize) -> Turn
+pub fn leave_both(book: &[u8], work: &mut Words, n: usize, i: usize, l: usize, r: usize) -> Turn
     requires { Joining book.now work.old n i l r }
     ensures { Turned book.now work.old work.new n result.free (i ∷ l ∷ r ∷ [])
         (header_at work.old i).up i
-        (done (joining book.now work.old i l r)) result.ready result.more }
+        (done (joining book.now work.old i l r)) result.ready }
 {
     let h = head(work, i);
-    let x = head(work, l);
-    let y = head(work, r);
+    let a = head(work, l).count as usize;
+    let b = head(work, r).count as usize;
     give_back(work, n, h.left);
     give_back(work, n + 1, h.right);
-    let c = join_slots(book, work, i, l, r, x.count, y.count, h.place, h.phase);
+    let c = join_slots(book, work, i, l, r, a, b, h.place as usize, h.phase);
     finish(work, i, h.up, c);
     ended(n + 2)
 }
 
 // not a where a is finished: the kept packets that a did not give; a's position is given back.
-pub fn leave_not(work: &mut [u16], n: usize, i: usize, c: usize) -> Turn
+pub fn leave_not(work: &mut Words, n: usize, i: usize, c: usize) -> Turn
     requires { Lacking work.old n i c }
     ensures { (s : List ℕ) → Turned s work.old work.new n result.free (i ∷ c ∷ [])
-        (header_at work.old i).up i (done (lacking work.old i c)) result.ready result.more }
+        (header_at work.old i).up i (done (lacking work.old i c)) result.ready }
 {
     let h = head(work, i);
-    let x = head(work, c);
+    let m = head(work, c).count as usize;
     give_back(work, n, h.left);
-    let k = lack_slots(work, i, h.count, c, x.count);
+    let k = lack_slots(work, i, h.count as usize, c, m);
     finish(work, i, h.up, k);
     ended(n + 1)
 }

@@ -3,13 +3,11 @@ ghost use Rattle.std.specs.Prelude.{◌≡◌, ◌<◌, ◌≤◌, length, get_o
 ghost use Rattle.rules.specs.Books.{most_bytes};
 ghost use Rattle.steps.specs.Standing.{end_by, Marked};
 
-use area::wide;
-
 // The word of the table at a place; 0 past its end.
 pub fn end_at(ends: &[u16], at: usize) -> u16
     ensures { result ≡ get_or ends.now at 0 }
 {
-    if at < ends.len() { ends[at] } else { 0 }
+    ends.get(at).copied().unwrap_or(0)
 }
 
 // The place after the part at a place, where the table has those of the parts below it.
@@ -19,15 +17,14 @@ fn end_by(book: &[u8], ends: &[u16], at: usize) -> u16
 {
     let p = book::head_at(book, at);
     let shape = rules::shape_of(p.code);
-    let parts = shape.parts;
-    if parts == 0 {
-        return p.from as u16;
+    match shape.parts {
+        0 => p.from as u16,
+        1 => end_at(ends, p.from),
+        _ => {
+            let middle = end_at(ends, p.from);
+            end_at(ends, middle as usize)
+        }
     }
-    let middle = end_at(ends, p.from);
-    if parts == 1 {
-        return middle;
-    }
-    end_at(ends, wide(middle))
 }
 
 // The table of a book.
@@ -35,10 +32,7 @@ pub fn mark(book: &[u8], ends: &mut [u16])
     requires { (length book.now ≤ most_bytes) × (length book.now ≤ length ends.old) }
     ensures { Marked book.now ends.new }
 {
-    let mut at = book.len();
-    while 0 < at {
-        at -= 1;
-        let e = end_by(book, ends, at);
-        ends[at] = e;
+    for at in (0..book.len()).rev() {
+        ends[at] = end_by(book, ends, at);
     }
 }

@@ -1,13 +1,14 @@
 -- The proof of the cycle of calls of the evaluator. The measure is 20 for each part at hand, and what is left of the packets:
 -- parts fall from operator to part, packets from split to rest.
 use native.Mathlib.Omega.{arith}
+use Rattle.rules.proofs.HandingUp.{handed_up}
 use Rattle.rules.proofs.CodeLaws.{stands_zero, stands_plain}
 use Rattle.evaluator.proofs.Decoder.{stands_drop, stands_test, stands_set, stands_table, stands_not, stands_sum, stands_seq}
 use Rattle.evaluator.proofs.Decoder.{stands_beside, table_used, table_none}
 use Rattle.evaluator.proofs.WorkLaws.{few, gives_id, gives_not, gives_table, gives_seq, gives_sum, wide_sum, gives_none}
 use Rattle.evaluator.proofs.WorkLaws.{gives_pair, wide_pair, gives_split, wide_split}
 use Rattle.evaluator.proofs.Down.{under_not, sum_left, sum_right, seq_left, seq_right, beside_left, beside_right}
-use Rattle.evaluator.proofs.Down.{stops, on, over_on, goes_on, goes_over, alone, from_end, from_here, few_left, some_left}
+use Rattle.evaluator.proofs.Down.{on, over_on, goes_on, goes_over, alone, from_end, from_here, few_left, some_left}
 use Rattle.evaluator.proofs.Down.{down, down_table, enter, enter_beside, did_there, gives_there, small_here, small, small_table}
 use Rattle.evaluator.proofs.Down.{over_not, over_table, over_sum_left, over_sum_right, over_seq_left, over_seq_right}
 use Rattle.evaluator.proofs.Down.{over_beside_left, over_beside_right, over_first, over_rest}
@@ -81,7 +82,7 @@ not_at-evaluate_part-requires t c = down t under_not c.decreases c.requires
 
 pub not_at-returns-in_err-part : goal.not_at-returns-in_err-part
 not_at-returns-in_err-part t c =
-    stops _ _ _ _ _ c.from_residual.ensures.0 (over_not _ _ (over_on _ c.copied-given.ensures.same c.in_err-part.ensures))
+    rw (handed_up c.from_residual.ensures.1) (over_not _ _ (over_on _ c.copied-given.ensures.same c.in_err-part.ensures))
 
 pub not_at-not_of-requires : goal.not_at-not_of-requires
 not_at-not_of-requires t c = small under_not c.requires c.in_ok-part.ensures
@@ -95,7 +96,7 @@ pub sum_at-evaluate_part-requires : goal.sum_at-evaluate_part-requires
 sum_at-evaluate_part-requires t c = down t sum_left c.decreases c.requires
 
 pub sum_at-returns-in_err-first : goal.sum_at-returns-in_err-first
-sum_at-returns-in_err-first t c = stops _ _ _ _ _ c.from_residual.ensures.0 (over_sum_left _ _ c.in_err-first.ensures _)
+sum_at-returns-in_err-first t c = rw (handed_up c.from_residual.ensures.1) (over_sum_left _ _ c.in_err-first.ensures _)
 
 pub sum_at-evaluate_part-requires-2 : goal.sum_at-evaluate_part-requires-2
 sum_at-evaluate_part-requires-2 t c =
@@ -104,12 +105,12 @@ sum_at-evaluate_part-requires-2 t c =
 
 pub sum_at-returns-in_err-second : goal.sum_at-returns-in_err-second
 sum_at-returns-in_err-second t c =
-    stops _ _ _ _ _ c.from_residual-in_err-second.ensures.0
+    rw (handed_up c.from_residual-in_err-second.ensures.1)
     (over_sum_right _ _ (goes_over _ _ _ _ c.in_ok-first.ensures _ (over_on _ c.copied-other.ensures.same c.in_err-second.ensures)) _)
 
 pub sum_at-returns-in_err-join : goal.sum_at-returns-in_err-join
 sum_at-returns-in_err-join t c =
-    stops _ _ _ _ _ c.from_residual-in_err-join.ensures.0
+    rw (handed_up c.from_residual-in_err-join.ensures.1)
     (wide_sum c.in_ok-first.ensures (goes_on _ _ _ _ c.in_ok-first.ensures (on c.copied-other.ensures.same c.in_ok-second.ensures))
     c.in_err-join.ensures.wide)
 
@@ -129,7 +130,7 @@ pub seq_at-evaluate_part-requires : goal.seq_at-evaluate_part-requires
 seq_at-evaluate_part-requires t c = down t seq_left c.decreases c.requires
 
 pub seq_at-returns-in_err-first : goal.seq_at-returns-in_err-first
-seq_at-returns-in_err-first t c = stops _ _ _ _ _ c.from_residual.ensures.0 (over_seq_left _ _ c.in_err-first.ensures _)
+seq_at-returns-in_err-first t c = rw (handed_up c.from_residual.ensures.1) (over_seq_left _ _ c.in_err-first.ensures _)
 
 pub seq_at-evaluate_part-requires-2 : goal.seq_at-evaluate_part-requires-2
 seq_at-evaluate_part-requires-2 t c =
@@ -138,7 +139,7 @@ seq_at-evaluate_part-requires-2 t c =
 
 pub seq_at-returns-in_err-second : goal.seq_at-returns-in_err-second
 seq_at-returns-in_err-second t c =
-    stops _ _ _ _ _ c.from_residual-in_err-second.ensures.0
+    rw (handed_up c.from_residual-in_err-second.ensures.1)
     (over_seq_right _ c.in_ok-first.ensures (goes_over _ _ _ _ c.in_ok-first.ensures _ c.in_err-second.ensures))
 
 pub seq_at-seq_of-requires : goal.seq_at-seq_of-requires
@@ -156,7 +157,7 @@ one_packet-evaluate_part-requires t c = down t beside_left c.decreases c.require
 
 pub one_packet-returns-in_err-first : goal.one_packet-returns-in_err-first
 one_packet-returns-in_err-first t c =
-    stops _ _ _ _ _ c.from_residual.ensures.0
+    rw (handed_up c.from_residual.ensures.1)
     (over_beside_left _ _ _ _ _ (over_on _ c.alone-left.ensures.same c.in_err-first.ensures))
 
 pub one_packet-evaluate_part-requires-2 : goal.one_packet-evaluate_part-requires-2
@@ -166,13 +167,13 @@ one_packet-evaluate_part-requires-2 t c =
 
 pub one_packet-returns-in_err-second : goal.one_packet-returns-in_err-second
 one_packet-returns-in_err-second t c =
-    stops _ _ _ _ _ c.from_residual-in_err-second.ensures.0
+    rw (handed_up c.from_residual-in_err-second.ensures.1)
     (over_beside_right _ _ _ _ _ (goes_over _ _ _ _ c.in_ok-first.ensures _ (over_on _ c.alone-right.ensures.same c.in_err-second.ensures)))
 
 pub one_packet-returns-in_err-pair : goal.one_packet-returns-in_err-pair
 one_packet-returns-in_err-pair t c =
     let first = on c.alone-left.ensures.same c.in_ok-first.ensures in
-    stops _ _ _ _ _ c.from_residual-in_err-pair.ensures.0
+    rw (handed_up c.from_residual-in_err-pair.ensures.1)
     (wide_pair _ _ _ _ _ first (goes_on _ _ _ _ first (on c.alone-right.ensures.same c.in_ok-second.ensures)) c.in_err-pair.ensures.wide)
 
 pub one_packet-joined-requires : goal.one_packet-joined-requires
@@ -195,19 +196,19 @@ walk_packets-returns-then-i-set t c =
 pub walk_packets-returns-in_err-first : goal.walk_packets-returns-in_err-first
 walk_packets-returns-in_err-first t c =
     rw (from_here c.args.set.now c.args.i c.requires.within c.if-i-set.false)
-    (stops _ _ _ _ _ c.from_residual.ensures.0 (over_first _ _ _ _ _ _ (over_on _ (alone c.packet-row.ensures) c.in_err-first.ensures)))
+    (rw (handed_up c.from_residual.ensures.1) (over_first _ _ _ _ _ _ (over_on _ (alone c.packet-row.ensures) c.in_err-first.ensures)))
 
 pub walk_packets-returns-in_err-second : goal.walk_packets-returns-in_err-second
 walk_packets-returns-in_err-second t c =
     rw (from_here c.args.set.now c.args.i c.requires.within c.if-i-set.false)
-    (stops _ _ _ _ _ c.from_residual-in_err-second.ensures.0 (over_rest _ _ _ _ _ _ c.in_err-second.ensures))
+    (rw (handed_up c.from_residual-in_err-second.ensures.1) (over_rest _ _ _ _ _ _ c.in_err-second.ensures))
 
 pub walk_packets-returns-in_err-join : goal.walk_packets-returns-in_err-join
 walk_packets-returns-in_err-join t c =
     let first = on (alone c.packet-row.ensures) c.in_ok-first.ensures in
     let left = some_left c.args.set.now c.args.i c.requires.within c.if-i-set.false c.if-i-set-2.false in
     rw (from_here c.args.set.now c.args.i c.requires.within c.if-i-set.false)
-    (stops _ _ _ _ _ c.from_residual-in_err-join.ensures.0
+    (rw (handed_up c.from_residual-in_err-join.ensures.1)
     (wide_split _ _ _ _ _ first _ left c.in_ok-second.ensures c.in_err-join.ensures.wide))
 
 pub walk_packets-joined-requires : goal.walk_packets-joined-requires
@@ -234,7 +235,7 @@ table_at-evaluate_part-requires t c =
 
 pub table_at-returns-in_err-body : goal.table_at-returns-in_err-body
 table_at-returns-in_err-body t c =
-    rw (table_used _ _ _ _ c.if-not-main.false c.body_start-start.ensures.0 c.requires.closed) (stops _ _ _ _ _ c.from_residual.ensures.0 (over_table _ _ c.in_err-body.ensures _ _ _ _))
+    rw (table_used _ _ _ _ c.if-not-main.false c.body_start-start.ensures.0 c.requires.closed) (rw (handed_up c.from_residual.ensures.1) (over_table _ _ c.in_err-body.ensures _ _ _ _))
 
 pub table_at-table_of-requires : goal.table_at-table_of-requires
 table_at-table_of-requires t c =

@@ -3,9 +3,8 @@ use borrow.Author.Rules.{rules}
 use Rattle.exports.proofs.FaceLaws.{face_short, face_laid}
 use Rattle.exports.proofs.hamstedew_accept.Goals as goal
 
-pub returns-then-sizes-lt5 : goal.returns-then-sizes-lt5
-returns-then-sizes-lt5 c = face_short (search rules)
+pub returns-then-sizes-lt-FACE_WORDS : goal.returns-then-sizes-lt-FACE_WORDS
+returns-then-sizes-lt-FACE_WORDS c = face_short c.if-sizes-lt-FACE_WORDS.true
 
 pub returns : goal.returns
-returns c =
-    face_laid (rw c.accept-v.ensures.is at c.verdict_face.ensures) (search rules) c.lay.ensures.0 c.lay.ensures.1
+returns c = face_laid (search rules) (rw c.accept.ensures.is at c.lay_verdict.ensures)

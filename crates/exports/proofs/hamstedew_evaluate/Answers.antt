@@ -3,10 +3,9 @@ use borrow.Author.Rules.{rules}
 use Rattle.exports.proofs.FaceLaws.{evaluate_short, evaluate_laid}
 use Rattle.exports.proofs.hamstedew_evaluate.Goals as goal
 
-pub returns-then-outcome-lt5 : goal.returns-then-outcome-lt5
-returns-then-outcome-lt5 c = evaluate_short (search rules)
+pub returns-then-outcome-lt-FACE_WORDS : goal.returns-then-outcome-lt-FACE_WORDS
+returns-then-outcome-lt-FACE_WORDS c = evaluate_short c.if-outcome-lt-FACE_WORDS.true
 
 pub returns : goal.returns
 returns c =
-    evaluate_laid (rw c.evaluate-e.ensures.is at c.evaluated_face.ensures) (search rules) c.lay.ensures.0 c.lay.ensures.1
-    c.evaluate-e.ensures.out
+    evaluate_laid (search rules) (rw c.evaluate.ensures.is at c.lay_evaluated.ensures) c.evaluate.ensures.out

@@ -3,10 +3,9 @@ use borrow.Author.Rules.{rules}
 use Rattle.exports.proofs.FaceLaws.{run_short, run_laid}
 use Rattle.exports.proofs.hamstedew_run.Goals as goal
 
-pub returns-then-progress-lt5 : goal.returns-then-progress-lt5
-returns-then-progress-lt5 c = run_short (search rules)
+pub returns-then-progress-lt-FACE_WORDS : goal.returns-then-progress-lt-FACE_WORDS
+returns-then-progress-lt-FACE_WORDS c = run_short c.if-progress-lt-FACE_WORDS.true
 
 pub returns : goal.returns
 returns c =
-    run_laid (rw c.run-a.ensures.is at c.ran_face.ensures) (search rules) c.lay.ensures.0 c.lay.ensures.1
-    c.run-a.ensures.out c.run-a.ensures.work
+    run_laid (search rules) (rw c.run.ensures.is at c.lay_ran.ensures) c.run.ensures.out c.run.ensures.work

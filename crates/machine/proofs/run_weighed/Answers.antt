@@ -1,5 +1,6 @@
--- `run_weighed` meets its contract: 11, or the run is conducted. Assumes nothing.
+-- `run_weighed` meets its contract: 11, or the run is conducted.
 use native.Mathlib.Omega.{arith}
+use Rattle.machine.proofs.Ending.{cleared}
 use Rattle.machine.proofs.Running.{refused_positions, few_words, runs, conducted}
 use Rattle.machine.proofs.run_weighed.Goals as goal
 
@@ -13,7 +14,7 @@ conduct-requires c =
     let few = few_words a.book.now a.packet.now a.schedule.now a.res.now a.work.now a.room c.requires in
     record {
       policy = room (λ j. omega (arith, c.type_inv.book j)) c.if-room.false;
-      buffers = (c.requires.wide, few, c.requires.fits);
+      buffers = (few, c.requires.fits);
     }
 
 pub returns : goal.returns
@@ -21,4 +22,4 @@ returns c =
     let a = c.args in
     conducted a.book.now a.packet.now a.schedule.now a.res.now a.work.now a.room c.requires
     (λ j. omega (arith, c.type_inv.book j)) c.if-room.false c.conduct.result c.conduct.new.res
-    c.conduct.new.work c.conduct.ensures.0 c.conduct.ensures.1 c.conduct.ensures.2
+    _ c.conduct.ensures.0 c.conduct.ensures.1 (cleared _ _ c.conduct.ensures.2)

@@ -8,6 +8,7 @@ use Rattle.area.proofs.joins.bare_packet.Goals as goal
 pub returns : goal.returns
 returns c =
     let h = c.requires in
-    rowed (back _ _ c.put_row.new.w h.1 h.2 c.put_row.auto.w) (omega arith)
-    (c.bare_row-p.ensures ∙ ap (λ (p : Packet). without c.args.w p) (sym (first_row _) ∙ lent_packet _ _ _))
+    let s = c.slot_range-2.ensures in
+    rowed (back _ s _ c.put_row.new.w h.1 c.told-work c.put_row.auto.w) s (omega arith)
+    (c.bare_row-p.ensures ∙ ap (λ (p : Packet). without c.args.w p) (sym (first_row _) ∙ lent_packet _ c.slot_range.ensures _ _))
     c.put_row.ensures

@@ -5,4 +5,6 @@ use Rattle.area.proofs.Lending.{lent_packet}
 use Rattle.area.proofs.joins.order_packets.Goals as goal
 
 pub returns : goal.returns
-returns c = c.order_rows.ensures ∙ ap₂ (λ (p q : Packet). order_of p q) (lent_packet _ _ _) (lent_packet _ _ _)
+returns c =
+    c.order_rows.ensures
+    ∙ ap₂ (λ (p q : Packet). order_of p q) (lent_packet _ c.slot_range.ensures _ _) (lent_packet _ c.slot_range-2.ensures _ _)

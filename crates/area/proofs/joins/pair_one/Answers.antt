@@ -8,6 +8,8 @@ use Rattle.area.proofs.joins.pair_one.Goals as goal
 pub returns : goal.returns
 returns c =
     let h = c.requires in
-    rowed (back _ _ c.put_row.new.w h.0 h.3 c.put_row.auto.w) (omega arith)
-    (c.mix_rows-p.ensures ∙ ap₂ (λ (p q : Packet). mix c.args.w p q) (lent_packet _ _ _) (lent_packet _ _ _))
+    let s = c.slot_range-3.ensures in
+    rowed (back _ s _ c.put_row.new.w h.0 c.told-work c.put_row.auto.w) s (omega arith)
+    (c.mix_rows-p.ensures
+    ∙ ap₂ (λ (p q : Packet). mix c.args.w p q) (lent_packet _ c.slot_range.ensures _ _) (lent_packet _ c.slot_range-2.ensures _ _))
     c.put_row.ensures

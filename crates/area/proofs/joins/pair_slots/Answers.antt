@@ -1,20 +1,17 @@
 -- `joins::pair_slots` meets its contract: one pairing by itself, or all of them from copies.
-use Rattle.area.proofs.Lending.{back, tidied_long}
+use Rattle.area.proofs.Lending.{back}
 use Rattle.area.proofs.Joining.{no_packets, lent_empty, paired_one, paired, pairs_some}
 use Rattle.area.proofs.joins.pair_slots.Goals as goal
 
 pub returns-then-b-eq1 : goal.returns-then-b-eq1
-returns-then-b-eq1 c =
-    rw (c.if-a-eq1.true, c.if-b-eq1.true) (paired_one _ _ _ c.pair_one.ensures)
+returns-then-b-eq1 c = rw (c.if-a-eq1.true, c.if-b-eq1.true) (paired_one _ _ _ c.pair_one.ensures)
 
 pub tidy-requires : goal.tidy-requires
-tidy-requires c =
-    let h = c.before.requires.0 in
-    no_packets _ _ h.there h.first.area
+tidy-requires c = no_packets _ _ c.before.requires.0.there
 
 pub pairs_into-requires : goal.pairs_into-requires
 pairs_into-requires c =
-    (lent_empty c.tidy.ensures, c.copy_out-x.ensures.packed, c.copy_out-y.ensures.packed)
+    (lent_empty c.slot_range.ensures c.tidy.ensures, c.copy_out-x.ensures.packed, c.copy_out-y.ensures.packed)
 
 pub unwrap-requires : goal.unwrap-requires
 unwrap-requires c =
@@ -24,6 +21,6 @@ unwrap-requires c =
 pub returns : goal.returns
 returns c =
     let h = c.before.requires in
-    let room = tidied_long h.0.first.area c.tidy.ensures in
-    paired _ _ _ c.copy_out-x.ensures c.copy_out-y.ensures c.tidy.ensures
-    (back _ _ c.pairs_into.new.v h.0.there room c.pairs_into.auto.v) (rw c.unwrap.ensures at c.pairs_into.ensures)
+    let s = c.slot_range.ensures in
+    paired _ _ _ s c.copy_out-x.ensures c.copy_out-y.ensures c.tidy.ensures
+    (back _ s _ c.pairs_into.new.v h.0.there c.tidy.array_long c.pairs_into.auto.v) (rw c.unwrap.ensures at c.pairs_into.ensures)

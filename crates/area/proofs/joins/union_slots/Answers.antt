@@ -17,7 +17,7 @@ move_packet-requires c =
     let h = c.requires in
     let e = c.lead-t.ensures in
     let i = c.loop-x.invariant in
-    (h.0.there, merging_room h.0 i e h.1, next_there h.0 i e, e.row, omega (arith, h.0.first.area, i.out.long))
+    (h.0.there, merging_room h.0 i e h.1, next_there h.0 i e, e.row)
 
 pub overflow_add-k : goal.overflow_add-k
 overflow_add-k c =

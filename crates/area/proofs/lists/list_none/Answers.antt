@@ -5,4 +5,4 @@ use Rattle.area.proofs.lists.list_none.Goals as goal
 pub returns : goal.returns
 returns c =
     let p = c.requires in
-    listed_none _ _ _ p.0 p.1 p.2 _ c.move_down.ensures
+    listed_none _ _ _ p.0 p.1 c.told-work _ c.copy_within.ensures.after

@@ -6,4 +6,4 @@ use Rattle.area.proofs.lists.list_two.Goals as goal
 pub returns : goal.returns
 returns c =
     let p = c.requires in
-    listed_two _ _ _ p.0 (omega (arith, p.1)) p.2 _ _ _ p.1 c.move_up.ensures
+    listed_two _ _ _ p.0 (omega (arith, p.1)) c.told-work _ _ _ p.1 c.copy_within.ensures.after

@@ -3,6 +3,4 @@ use Rattle.area.proofs.Lending.{front_rows, lent_slot}
 use Rattle.area.proofs.slots.emit_packets.Goals as goal
 
 pub returns : goal.returns
-returns c =
-    let a = c.args in
-    rw (lent_slot (a.work).now a.i, front_rows _ a.n c.requires.1) at c.emit_rows.ensures
+returns c = rw (lent_slot _ c.slot_range.ensures _, front_rows _ c.args.n c.requires.1) at c.emit_rows.ensures

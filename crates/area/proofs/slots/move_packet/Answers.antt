@@ -6,5 +6,6 @@ use Rattle.area.proofs.slots.move_packet.Goals as goal
 pub returns : goal.returns
 returns c =
     let h = c.requires in
-    rowed (back _ _ c.put_row.new.w h.0 h.4 c.put_row.auto.w) h.1
-    (c.row-p.ensures ∙ lent_packet _ _ _) c.put_row.ensures
+    let s = c.slot_range-2.ensures in
+    rowed (back _ s _ c.put_row.new.w h.0 c.told-work c.put_row.auto.w) s h.1
+    (c.row-p.ensures ∙ lent_packet _ c.slot_range.ensures _ _) c.put_row.ensures

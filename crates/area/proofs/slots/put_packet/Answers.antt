@@ -10,6 +10,6 @@ use Rattle.area.proofs.slots.put_packet.Goals as goal
 pub returns : goal.returns
 returns c =
     let a = c.args in
+    let s = c.slot_range.ensures in
     let l : length a.p ≤ 8 = search rules in
-    rowed (back _ _ c.put_row.new.w c.requires.0 c.requires.1 c.put_row.auto.w) (omega arith) (take_all 8 a.p l)
-    c.put_row.ensures
+    rowed (back _ s _ c.put_row.new.w c.requires c.told-work c.put_row.auto.w) s (omega arith) (take_all 8 a.p l) c.put_row.ensures

@@ -7,10 +7,10 @@ use Rattle.area.proofs.slots.set_one.Goals as goal
 
 pub returns-then-f-lt-ROW_WORDS : goal.returns-then-f-lt-ROW_WORDS
 returns-then-f-lt-ROW_WORDS c =
-    let h = c.requires in
+    let s = c.slot_range.ensures in
     set_one c.args.f c.args.x
-    (rowed (back _ _ c.put_at.new.v h.0 h.1 c.put_at.auto.v) (omega arith)
-    (ap (λ (p : Packet). put c.args.f c.args.x p) (lent_packet _ _ _)) c.put_at.ensures)
+    (rowed (back _ s _ c.put_at.new.v c.requires c.told-work c.put_at.auto.v) s (omega arith)
+    (ap (λ (p : Packet). put c.args.f c.args.x p) (lent_packet _ s _ _)) c.put_at.ensures)
 
 pub returns-else-f-lt-ROW_WORDS : goal.returns-else-f-lt-ROW_WORDS
 returns-else-f-lt-ROW_WORDS c = set_one _ _ (set_none _ _ _ _ (omega (arith, c.if-f-lt-ROW_WORDS.false)))

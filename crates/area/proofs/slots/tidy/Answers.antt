@@ -5,4 +5,5 @@ use Rattle.area.proofs.slots.tidy.Goals as goal
 pub returns : goal.returns
 returns c =
     let h = c.requires in
-    tidied (back _ _ c.clear_rows.new.v h.there h.area c.clear_rows.auto.v) h c.clear_rows.ensures
+    let s = c.slot_range.ensures in
+    tidied (back _ s _ c.clear_rows.new.v h.there c.told-work c.clear_rows.auto.v) s h c.clear_rows.ensures

@@ -4,13 +4,10 @@ use Rattle.area.specs.declared.headers.Header.{Header}
 use Rattle.machine.proofs.Sides.{none_entered}
 use Rattle.machine.proofs.beside.enter_beside.Goals as goal
 
-pub returns-then-h-eq0 : goal.returns-then-h-eq0
-returns-then-h-eq0 c =
+pub returns-in-0 : goal.returns-in-0
+returns-in-0 c =
     rw c.ended.ensures
-    (none_entered c.requires.0 (sym (ap (λ (h : Header). h.count) c.head-h.ensures)
-    ∙ c.if-h-eq0.true) (rw c.head-h.ensures at c.finish.ensures))
+    (none_entered c.requires.0 (sym (ap (λ (h : Header). h.count) c.head-h.ensures) ∙ c.in-0.is) (rw c.head-h.ensures at c.finish.ensures))
 
-pub returns : goal.returns
-returns c =
-    let a = c.args in
-    c.enter_split.ensures (a.book).now c.requires.0
+pub returns-in_default : goal.returns-in_default
+returns-in_default c = c.enter_split.ensures c.args.book.now c.requires.0

@@ -1,13 +1,6 @@
 -- What each part leaves is what the next one asks.
-use mathlib.Core.Path.{◌∙◌}
-use Rattle.machine.proofs.Ending.{cleared}
 use Rattle.machine.proofs.play.conduct.Goals as goal
 
 pub returns : goal.returns
 returns c =
-    let a = c.args in (
-      c.answer-r.ensures.0,
-      c.answer-r.ensures.1,
-      cleared (a.work).now c.play-c.new.work _ (c.play-c.ensures.started.beyond.past
-          ∙ c.set_up-first.ensures.beyond.past) c.clear.ensures,
-    )
+    (c.answer-r.ensures.0, c.answer-r.ensures.1, rw c.play-c.array_long at (c.fill.ensures.after (λ y h. h)))

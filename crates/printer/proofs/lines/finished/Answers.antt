@@ -1,27 +1,44 @@
--- `lines::finished` meets its contract: sixteen packets of eight values and a first line fit. Assumes nothing.
-use native.Mathlib.Omega.{arith}
-use mathlib.Core.List.{append_assoc}
-use lib.ListN.{length-append}
-use Rattle.printer.specs.Printing.{finished_word}
-use Rattle.printer.specs.Building.{finished_lines}
-use Rattle.printer.proofs.LineLaws.{opening_few, lines_fit}
-use Rattle.printer.proofs.TextLaws.{room_after, holds_more}
+-- The lines of all packets are still to be added at first, then those of the rest.
+use Rattle.std.proofs.Common.{◌++◌, length-append, append_assoc, ◌∙◌, rules, arith, lit<}
+use Rattle.printer.specs.Printing.{finished_word, blank_then, line_end}
+use Rattle.printer.specs.Building.{lines_of, finished_lines}
+use Rattle.printer.proofs.LineLaws.{parts, packets_all, packets_room, packets_next, packets_none}
 use Rattle.printer.proofs.lines.finished.Goals as goal
 
-pub add_byte-line-requires : goal.add_byte-line-requires
-add_byte-line-requires c =
-    let f = c.args.f in
-    room_after _ c.opening.ensures (omega (arith, opening_few finished_word f.steps f.count))
+pub loop-packet-init : goal.loop-packet-init
+loop-packet-init c =
+    let r = c.requires in
+    let all = packets_all c.args.k c.args.f.count c.args.words.now c.push.new.self.bytes r.few r.room
+    (rw (c.push.ensures.ascii (lit< tt), length-append) (omega arith)) in
+    (search rules, tt, search rules, rw (c.into_iter-packet-iterator.ensures.into_iter_gives, c.chunks_exact-packet-items.ensures.rest) all)
 
-pub add_packets-requires-clause-room : goal.add_packets-requires-clause-room
-add_packets-requires-clause-room c =
-    let f = c.args.f in
-    let lines = lines_fit c.args.k f.count c.args.words.now c.requires.0 c.requires.1 in
-    room_after _ (holds_more c.opening.ensures c.add_byte-line.ensures)
-    (rw length-append (omega (arith, opening_few finished_word f.steps f.count, lines)))
+pub push_values-requires : goal.push_values-requires
+push_values-requires c =
+    let r = c.requires in
+    let steps = c.in-Some.ensures.steps.1 in
+    let here = c.loop-packet.invariant in
+    packets_room c.in-Some.packet.now c.next.new.self.rest.now r.eight r.one (steps.1 ∙ here.2) (rw steps.0 at here.3)
+
+pub loop-packet-preserved : goal.loop-packet-preserved
+loop-packet-preserved c =
+    let r = c.requires in
+    let steps = c.in-Some.ensures.steps in
+    let here = c.loop-packet.invariant in (
+      rw steps.0 here.0,
+      tt,
+      steps.0 ∙ here.2,
+      packets_next c.in-Some.packet.now c.next.new.self.rest.now r.eight r.one (steps.1.1 ∙ here.2) (rw steps.1.0 at here.3)
+          c.push_values.ensures.bytes c.push_values.ensures.few,
+    )
 
 pub returns : goal.returns
 unfolding finished_lines
 returns c =
-    simp append_assoc at
-    (holds_more (holds_more c.opening.ensures c.add_byte-line.ensures) c.add_packets.ensures)
+    let steps = c.in-None.ensures.steps.1 in
+    let f = c.args.f in
+    let lines = lines_of c.args.k f.count c.args.words.now in
+    let here = c.loop-packet.invariant in
+    packets_none c.loop-packet.packet-iterator.rest.now (rw here.2 at steps.0) here.3
+    ∙ rw (c.push.ensures.ascii (lit< tt), c.opening-text.ensures.bytes)
+    (append_assoc (finished_word ++ (blank_then f.steps ++ blank_then f.count)) line_end lines
+    ∙ parts finished_word (blank_then f.steps) (blank_then f.count) (line_end ++ lines))

@@ -1,17 +1,13 @@
--- `lines::refused` meets its contract. Assumes nothing.
-use native.Mathlib.Omega.{arith}
-use mathlib.Core.List.{append_assoc}
-use Rattle.printer.specs.Printing.{refused_word, refused_line}
-use Rattle.printer.proofs.LineLaws.{opening_few}
-use Rattle.printer.proofs.TextLaws.{room_after, holds_more}
+-- The parts of the line, one after the other.
+use Rattle.std.proofs.Common.{lit<}
+use Rattle.rules.specs.Checks.{number_of}
+use Rattle.printer.specs.Printing.{refused_word, refused_line, blank_then, line_end}
+use Rattle.printer.proofs.LineLaws.{parts}
 use Rattle.printer.proofs.lines.refused.Goals as goal
-
-pub add_byte-requires : goal.add_byte-requires
-add_byte-requires c =
-    room_after _ c.opening.ensures (omega (arith, opening_few refused_word c.number.result c.args.r.place))
 
 pub returns : goal.returns
 unfolding refused_line
 returns c =
-    rw (← c.number.ensures)
-    (simp append_assoc at (holds_more c.opening.ensures c.add_byte.ensures))
+    let r = c.args.r in
+    rw (c.push.ensures.ascii (lit< tt), c.opening-text.ensures.bytes, c.number.ensures)
+    (parts refused_word (blank_then (number_of r)) (blank_then r.place) line_end)

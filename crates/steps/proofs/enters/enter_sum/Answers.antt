@@ -1,35 +1,31 @@
--- `enters::enter_sum` meets its contract. Assumes nothing.
+-- `enters::enter_sum` meets its contract.
 use native.Mathlib.Omega.{arith}
-use mathlib.Core.Path.{refl, ◌∙◌}
+use mathlib.Core.Path.{refl}
 use Rattle.steps.proofs.Entering.{from_at, sum_room, sum_marked, left_lays, right_lays, sum_turned}
 use Rattle.steps.proofs.enters.enter_sum.Goals as goal
 
 pub take_free-l-requires : goal.take_free-l-requires
 take_free-l-requires c = let h = c.before.requires.0 in
-    (omega (arith, sum_room _ _ _ _ h), h.few, h.area)
+    (omega (arith, sum_room _ _ _ _ h), h.few)
 
 pub take_free-r-requires : goal.take_free-r-requires
 take_free-r-requires c = let h = c.before.before.requires.0 in
-    (omega (arith, sum_room _ _ _ _ h), omega (arith, h.few), h.area)
+    (omega (arith, sum_room _ _ _ _ h), omega (arith, h.few))
 
 pub lay-x-requires : goal.lay-x-requires
 lay-x-requires c =
     let p = c.before.before.requires in
-    let from = from_at p.0 c.head-h.ensures c.head_at-p.ensures refl in (
-      rw (c.wide.ensures, from, c.head-h.ensures)
-          (left_lays _ _ _ _ p.0 _ _ c.take_free-l.ensures c.take_free-r.ensures),
-      p.1,
-    )
+    let from = from_at p.0 c.head-h.ensures c.head_at-p.ensures refl in
+    (rw (from, c.head-h.ensures) (left_lays _ _ _ _ p.0 _ _ c.take_free-l.ensures c.take_free-r.ensures), p.1)
 
 pub lay-y-requires : goal.lay-y-requires
 lay-y-requires c =
     let p = c.before.before.requires in
     let e = c.head-h.ensures in
     let from = from_at p.0 e c.head_at-p.ensures refl in
-    let q = sum_marked _ _ _ _ p.0 p.1 (rw (from, e) at (c.wide-q.ensures ∙ c.end_at.ensures)) in (
-      rw (c.wide-2.ensures, q, e)
-          (right_lays _ _ _ _ p.0 _ _ c.take_free-l.ensures c.take_free-r.ensures
-          c.lay-x.new.work _ _ (λ f. rw (c.wide.ensures, from, e) at (c.lay-x.ensures f))),
+    let q = sum_marked _ _ _ _ p.0 p.1 (rw (from, e) at c.end_at-q.ensures) in (
+      rw (q, e) (right_lays _ _ _ _ p.0 _ _ c.take_free-l.ensures c.take_free-r.ensures
+          c.lay-x.new.work _ _ (λ f. rw (from, e) at (c.lay-x.ensures f))),
       p.1,
     )
 
@@ -38,9 +34,9 @@ returns c =
     let p = c.before.before.requires in
     let e = c.head-h.ensures in
     let from = from_at p.0 e c.head_at-p.ensures refl in
-    let q = sum_marked _ _ _ _ p.0 p.1 (rw (from, e) at (c.wide-q.ensures ∙ c.end_at.ensures)) in
-    sum_turned _ _ _ _ p.0 _ _ c.take_free-l.ensures c.take_free-r.ensures
-    c.lay-x.new.work _ _ (λ f. rw (c.wide.ensures, from, e) at (c.lay-x.ensures f))
-    c.lay-y.new.work c.put_head.new.work _ _ _ _
-    (λ f. rw (c.wide-2.ensures, q, e) at (c.lay-y.ensures f))
-    (rw e at c.put_head.ensures) c.pair_of-o.ensures.0 c.pair_of-o.ensures.1
+    let q = sum_marked _ _ _ _ p.0 p.1 (rw (from, e) at c.end_at-q.ensures) in
+    rw c.two_ready.ensures (sum_turned _ _ _ _ p.0 _ _ c.take_free-l.ensures c.take_free-r.ensures
+    c.lay-x.new.work _ _ (λ f. rw (from, e) at (c.lay-x.ensures f))
+    c.lay-y.new.work c.put_head.new.work _ _
+    (λ f. rw (q, e) at (c.lay-y.ensures f))
+    (rw e at c.put_head.ensures))

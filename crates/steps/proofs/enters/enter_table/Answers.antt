@@ -1,9 +1,9 @@
--- `enters::enter_table` meets its contract. Assumes nothing.
+-- `enters::enter_table` meets its contract.
 use Rattle.steps.proofs.Entering.{table_at, table_lays, table_turned}
 use Rattle.steps.proofs.enters.enter_table.Goals as goal
 
-pub lay-o-requires : goal.lay-o-requires
-lay-o-requires c =
+pub lay-x-requires : goal.lay-x-requires
+lay-x-requires c =
     let e = c.head-h.ensures in
     let p = c.requires in
     (rw e (table_lays _ _ _ _ p.0 p.1 _ _ (table_at _ _ _ e c.head_at-p.ensures) c.body_start-start.ensures.0), p.2)
@@ -12,5 +12,5 @@ pub returns : goal.returns
 returns c =
     let e = c.head-h.ensures in
     let p = c.requires in
-    table_turned _ _ _ _ p.0 p.1 _ _ (table_at _ _ _ e c.head_at-p.ensures) c.body_start-start.ensures.0
-    c.lay-o.new.work _ _ (λ f. rw e at (c.lay-o.ensures f))
+    rw c.from.ensures (table_turned _ _ _ _ p.0 p.1 _ _ (table_at _ _ _ e c.head_at-p.ensures) c.body_start-start.ensures.0
+    c.lay-x.new.work _ _ (λ f. rw e at (c.lay-x.ensures f)))

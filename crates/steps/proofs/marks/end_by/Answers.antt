@@ -1,4 +1,4 @@
--- `marks::end_by` meets its contract: by how many parts stand below. Assumes nothing.
+-- `marks::end_by` meets its contract: by how many parts stand below.
 use native.Mathlib.Omega.{arith}
 use Rattle.steps.proofs.Marking.{end_none, end_one, end_two, from_small}
 use Rattle.steps.proofs.marks.end_by.Goals as goal
@@ -7,17 +7,16 @@ pub overflow_cast-result : goal.overflow_cast-result
 overflow_cast-result c =
     omega (arith, from_small c.args.book.now c.args.at c.requires.0 c.head_at-p.ensures, c.requires.1)
 
-pub returns-then-parts-eq0 : goal.returns-then-parts-eq0
-returns-then-parts-eq0 c =
-    end_none _ _ _ c.requires.0 _ c.head_at-p.ensures _ c.shape_of-shape.ensures c.if-parts-eq0.true
+pub returns-in-0 : goal.returns-in-0
+returns-in-0 c =
+    end_none _ _ _ c.requires.0 _ c.head_at-p.ensures _ c.shape_of-shape.ensures c.in-0.is
 
-pub returns-then-parts-eq1 : goal.returns-then-parts-eq1
-returns-then-parts-eq1 c =
+pub returns-in-1 : goal.returns-in-1
+returns-in-1 c =
     end_one _ _ _ c.requires.0 _ c.head_at-p.ensures _ c.shape_of-shape.ensures _
-    c.end_at-middle.ensures c.if-parts-eq1.true
+    c.end_at.ensures c.in-1.is
 
-pub returns : goal.returns
-returns c =
+pub returns-in_default : goal.returns-in_default
+returns-in_default c =
     end_two _ _ _ c.requires.0 _ c.head_at-p.ensures _ c.shape_of-shape.ensures _ _
-    c.end_at-middle.ensures
-    (rw c.wide.ensures at c.end_at.ensures) c.if-parts-eq0.false c.if-parts-eq1.false
+    c.end_at-middle.ensures c.end_at-in_default.ensures (λ z. omega (arith, z)) (λ z. omega (arith, z))
