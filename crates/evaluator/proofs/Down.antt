@@ -1,13 +1,13 @@
 -- The cycle of calls: what passes down, what falls, and what comes back up.
 use Prim.Native.Nat.{ℕ, ◌+◌, ◌*◌, ◌≤◌, ◌<◌}
 use native.Mathlib.Omega.{arith}
-use mathlib.Core.Path.{◌≡◌, refl, sym, ap}
+use mathlib.Core.Path.{◌≡◌, refl, ap}
 use mathlib.Core.Bool.{Bool, true, false, ◌||◌}
 use mathlib.Core.List.{List, [], ◌∷◌}
 use native.Mathlib.Numerals.{add-one}
 use lib.ListN.{length, drop, get_or, length-drop}
 use lib.Seq.{drop-cons}
-use Rattle.std.specs.Prelude.{Result, Ok, Err, IsErr}
+use Rattle.std.specs.Prelude.{Result}
 use Rattle.rules.specs.Packets.{places, Packet, Packets, without, most_packets}
 use Rattle.rules.specs.Parts.{Part, Not, Sum, Seq, Beside, Table, parts, deep, names_open}
 use Rattle.rules.specs.Reading.{part_at, after}

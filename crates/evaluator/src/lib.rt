@@ -1,7 +1,8 @@
 // The evaluator: one packet through a book (document 01, "Meaning", "Steps" and the numbers 8, 12, 9, 10).
 // evaluate_part and the functions of the codes call each other; all that they combine is done by functions outside that cycle. Lent down
 // the cycle is one PacketSet, which holds the packets that come to a part and then those that it gives. The book and whether it is the main
-// body stay two parameters: in a struct of both, a clause would have to say body.entry.book.now where it says book.now.
+// body stay two parameters: in a struct of both, a clause would have to say body.entry.book.now where it says book.now. Fair is said of
+// another part in each function, so that no type can keep it.
 #![tactic(auto)]
 
 ghost use Rattle.std.specs.Prelude.{◌≡◌, true, false, [], ◌∷◌, ◌+◌, ◌<◌, ◌≤◌, max, length, take, drop, Ok};
@@ -17,12 +18,13 @@ ghost use Rattle.evaluator.specs.Passing.{Passable, Passes, Weighs};
 
 use rows::{MOST, Row};
 use rules::{Head, Outcome, Reason, Refusal, Sizes};
-use sets::{PLACES, PacketSet, TooWide};
+use sets::{PacketSet, TooWide};
 
 // How deep the parts of a body lie at most.
 const DEPTH: usize = 32;
 
-// What a part comes to beside the packets: its steps, its room, and the place after it.
+// What a part comes to beside the packets: its steps, its room, and the place after it. That the numbers are Small is no fact of the type:
+// of a union's it follows from the part, and not from the numbers of the two below.
 #[derive(Clone, Copy)]
 struct Worked {
     steps: u64,
@@ -420,7 +422,7 @@ fn evaluate_accepted(
     }
     let mut set = PacketSet::of(packet);
     let weight = pass(book, packet, &mut set)?;
-    let _fits = rows::emit_rows(&set.values, set.count, k, PLACES, res);
+    let _fits = set.emit(k, res);
     Ok(Outcome {
         count: weight.count,
         steps: weight.steps,

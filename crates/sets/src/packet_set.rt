@@ -41,7 +41,8 @@ fn all_fields(k: usize) -> u8
 impl PacketSet {
     ghost use Rattle.std.specs.Prelude.{[], ◌∷◌, map, length, take, get_or, ◌<◌, OnOk, OnErr};
     ghost use Rattle.rules.specs.Masks.{less};
-    ghost use Rattle.rules.specs.Packets.{most_packets, padded, passes, put, keep, gathered, lacks, union, pairs, without};
+    ghost use Rattle.rules.specs.Packets.{most_packets, padded, passes, put, keep, gathered, lacks, union, pairs, without, values_of};
+    ghost use Rattle.rows.specs.Arrays.{Emitted};
     ghost use Rattle.sets.specs.Whole.{packets, Is};
 
     // The set with no packet.
@@ -102,6 +103,13 @@ impl PacketSet {
         ensures { take places result ≡ get_or (packets self.now) i [] }
     {
         rows::row(&self.values, i, PLACES)
+    }
+
+    // The first k values of each packet, one packet after the other, at the front of a lent slice, if they fit there.
+    pub fn emit(&self, k: usize, out: &mut [u16]) -> bool
+        ensures { Emitted result (values_of k (packets self.now)) out.old out.new }
+    {
+        rows::emit_rows(&self.values, self.count, k, PLACES, out)
     }
 
     pub fn clear(&mut self)

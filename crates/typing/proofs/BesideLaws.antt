@@ -1,161 +1,97 @@
 -- A concurrent part as the code walks it: into its sides, and out of them.
-use Rattle.std.specs.Prelude.{Err, Ok, Result, ℕ}
 use Prim.Native.Nat.{ℕ, suc, max, ◌+◌, ◌≤◌}
 use native.Mathlib.Omega.{arith}
-use mathlib.Core.Path.{◌≡◌, refl, sym, ap, ◌∙◌}
-use mathlib.Core.Bool.{Bool}
+use mathlib.Core.Path.{◌≡◌, sym, ◌∙◌}
 use mathlib.Core.List.{List}
-use lib.ListN.{length, get_or, set, length-set}
-use lib.Seq.{get_or-set_same, get_or-set_other}
+use lib.ListN.{length}
+use Rattle.std.specs.Prelude.{Option, Result, Ok, Err, IfOk}
 use Rattle.rules.specs.declared.Head.{Head}
 use Rattle.rules.specs.Codes.{operands_of}
 use Rattle.rules.specs.Reading.{read_operands, head, head_at, fields_of, tables_of}
 use Rattle.rules.proofs.ReadingLaws.{head_is, operands_were}
-use Rattle.book.specs.Operands.{Within}
-use Rattle.typing.specs.declared.Walked.{Walked}
-use Rattle.typing.specs.declared.Walked.TheVariants.{On, Off}
-use Rattle.typing.specs.Walking.{Going, and_on, walked, open_of, Kept, Asked, BesideAsked, Left, Told, tally_of}
-use Rattle.typing.specs.Walking.{place_in, Moved, Bare, Joins, refused_at, wired, right_states, fault_after}
-use Rattle.typing.proofs.TallyLaws.{same_tally, entered, bared, met}
-use Rattle.typing.proofs.WalkLaws.{beside_stop, walk_beside}
-use Rattle.typing.proofs.CycleLaws.{stopped_left, told_off, told_on}
+use Rattle.typing.specs.declared.State.{State}
+use Rattle.typing.specs.declared.Way.{Way}
+use Rattle.typing.specs.declared.Notes.{Notes}
+use Rattle.typing.specs.Walking.{and_on, walked, tallied, tally_of, moved, bare, joined, right_states, fault_after, Kept, Asked, BesideAsked}
+use Rattle.typing.proofs.TallyLaws.{bared, met}
+use Rattle.typing.proofs.WalkLaws.{inner, beside_stop, walk_beside}
 
-module _ (s marks uses : List ℕ) (st d way : ℕ) (a : BesideAsked s marks uses st d way) (ops : Result ℕ ℕ)
-    (eo : ops ≡ read_operands s (fields_of s) (tables_of s) 7 (place_in st)) (known : Within (length s) ops) where
-  pub beside_refused : (b r : ℕ) → ops ≡ Err b → r ≡ refused_at ops
-      → Left s (open_of way) (walked s way (suc d) (tally_of st marks uses)) r marks uses
-  unfolding Within
-  beside_refused b r e q =
-      let k : b ≤ length s = rw e at known in
-      stopped_left s (open_of way) b r (walked s way (suc d) (tally_of st marks uses)) marks uses
-      (beside_stop s a.sound way d b (tally_of st marks uses) a.code a.free a.inside (sym eo ∙ e)) (q ∙ rw e) k
+-- the notes at one depth more, and with another fault
+abbrev pub sunk : ℕ → Notes → Notes
+sunk o n = record { fault = n.fault; deep = max n.deep (o + 1); uses = n.uses }
+
+abbrev pub faulted : Option ℕ → Notes → Notes
+faulted f n = record { fault = f; deep = n.deep; uses = n.uses }
+
+module _ (s : List ℕ) (n : Notes) (st : State) (d : ℕ) (w : Way) (a : BesideAsked s n st d w) (ops : Result ℕ ℕ)
+    (eo : ops ≡ read_operands s (fields_of s) (tables_of s) 7 st.at) where
+  pub beside_refused : (b : ℕ) → ops ≡ Err b → Err b ≡ walked s w (suc d) (tally_of st n)
+  beside_refused b e = sym (beside_stop s a.asked.sound w d b (tally_of st n) a.code a.free a.inside (sym eo ∙ e))
 
   module _ (from : ℕ) (en : ops ≡ Ok from) where
-    inside : (place_in st + 1 + operands_of 7 ≤ length s) × (from ≡ place_in st + 1 + operands_of 7)
-    inside = let w = operands_were s (fields_of s) (tables_of s) 7 (place_in st) from (sym eo ∙ en) in (w.1, w.0)
+    inside : (from ≡ st.at + 1 + operands_of 7) × (st.at + 1 + operands_of 7 ≤ length s)
+    inside = let w = operands_were s (fields_of s) (tables_of s) 7 st.at from (sym eo ∙ en) in (w.0, w.1)
 
-    goes : walked s way (suc d) (tally_of st marks uses)
-        ≡ and_on (walked s (way + 4) d (entered (open_of way) (tally_of st marks uses))) (λ l. and_on (walked s (way + 4) d (bared l))
-        (λ r. Going (met (head s (place_in st)).left (head s (place_in st)).right (tally_of st marks uses) l r)))
-    goes = walk_beside s a.sound way d from (tally_of st marks uses) a.code a.free a.inside (sym eo ∙ en) inside.1
+    goes : walked s w (suc d) (tally_of st n)
+        ≡ and_on (walked s (inner w) d (tally_of (moved 2 (bare st)) (sunk w.level n))) (λ l. and_on (walked s (inner w) d (bared l))
+        (λ r. Ok (met (head s st.at).left (head s st.at).right (tally_of st n) l r)))
+    goes = walk_beside s a.asked.sound w d from (tally_of st n) a.code a.free a.inside (sym eo ∙ en) inside.0
 
     -- into the first side
-    module _ (level y z : ℕ) (n : List ℕ) (el : level ≡ open_of way) (b : Bare st y) (v : Moved y (operands_of 7) z)
-        (em : n ≡ set marks 1 (max (get_or marks 1 0) (level + 1))) where
-      marked : (get_or n 0 0 ≡ get_or marks 0 0) × (get_or n 1 0 ≡ max (get_or marks 1 0) (open_of way + 1)) × (length n ≡ 2)
-      marked =
-          let x : ℕ = max (get_or marks 1 0) (level + 1) in (
-            ap (λ (i : List ℕ). get_or i 0 0) em ∙ get_or-set_other marks 1 0 x 0 (λ q. omega arith),
-            ap (λ (i : List ℕ). get_or i 1 0) em ∙ get_or-set_same marks 1 x 0 (omega (arith, a.two)) ∙ rw el,
-            ap length em ∙ length-set marks 1 x ∙ a.two,
-          )
+    pub first_asked : Asked s (sunk w.level n) (moved 2 (bare st)) d (inner w)
+    first_asked =
+        let k = a.asked.kept in
+        record {
+          sound = a.asked.sound;
+          kept = record {
+            within = inside.1;
+            parts = omega (arith, k.parts);
+            few = λ x. omega (arith, k.few x);
+            room = k.room;
+            deep = omega arith;
+          };
+          level = omega (arith, a.asked.level);
+        }
 
-      first_tally : tally_of z n uses ≡ entered (open_of way) (tally_of st marks uses)
-      first_tally =
-          same_tally (tally_of z n uses) (entered (open_of way) (tally_of st marks uses)) (omega (arith, v.place, b.place))
-          (omega (arith, v.parts, b.parts)) (v.masks.0 ∙ b.masks.0) (v.masks.1 ∙ b.masks.1) marked.0 marked.1 refl
+    -- out of the first side
+    module _ (x : Result State ℕ) (v : Notes) (t : tallied x v ≡ walked s (inner w) d (tally_of (moved 2 (bare st)) (sunk w.level n)))
+        (k : IfOk x (λ y. Kept s (inner w).level (tally_of y v))) where
+      pub first_off : (b : ℕ) → x ≡ Err b → tallied x v ≡ walked s w (suc d) (tally_of st n)
+      first_off b e =
+          let f : Err b ≡ walked s (inner w) d (tally_of (moved 2 (bare st)) (sunk w.level n)) = rw e at t in
+          rw (e, goes, ← f)
 
-      pub first_asked : Asked s n uses z d (way + 4)
-      first_asked =
-          let k = a.kept in
-          record {
-            sound = a.sound;
-            two = marked.2;
-            kept = record {
-              start = omega (arith, v.place, b.place, k.start);
-              within = omega (arith, v.place, b.place, inside.0);
-              parts = omega (arith, v.place, b.place, v.parts, b.parts, k.parts);
-              few = λ x. omega (arith, v.place, b.place, k.few x);
-              room = k.room;
-              deep = omega (arith, marked.1);
-            };
-            level = omega (arith, a.level);
-          }
+      module _ (l : State) (el : x ≡ Ok l) where
+        left : Ok (tally_of l v) ≡ walked s (inner w) d (tally_of (moved 2 (bare st)) (sunk w.level n))
+        left = rw el at t
 
-      -- out of the first side
-      module _ (x : Walked) (m1 u1 : List ℕ) (t1 : Told s (open_of (way + 4)) (walked s (way + 4) d (tally_of z n uses)) x m1 u1) where
-        pub first_off : (e r : ℕ) → x ≡ Off e → r ≡ wired x → Left s (open_of way) (walked s way (suc d) (tally_of st marks uses)) r m1 u1
-        first_off e r q w =
-            let k = told_off s (open_of (way + 4)) e (walked s (way + 4) d (tally_of z n uses)) x m1 u1 q t1 in
-            stopped_left s (open_of way) e r (walked s way (suc d) (tally_of st marks uses)) m1 u1
-            (goes ∙ rw (← first_tally, k.0)) (w ∙ rw q) k.1
+        -- into the second
+        pub second_asked : Asked s v (bare l) d (inner w)
+        second_asked =
+            let c : Kept s (inner w).level (tally_of l v) = rw el at k in
+            record {
+              sound = a.asked.sound;
+              kept = record { within = c.within; parts = c.parts; few = c.few; room = c.room; deep = c.deep };
+              level = omega (arith, a.asked.level);
+            }
 
-        module _ (l : ℕ) (ql : x ≡ On l) where
-          left : (walked s (way + 4) d (tally_of z n uses) ≡ Going (tally_of l m1 u1)) × (length m1 ≡ 2)
-              × Kept s (open_of (way + 4)) (tally_of l m1 u1)
-          left = told_on s (open_of (way + 4)) l (walked s (way + 4) d (tally_of z n uses)) x m1 u1 ql t1
+        -- out of both
+        module _ (y : Result State ℕ) (u : Notes) (h : tallied y u ≡ walked s (inner w) d (tally_of (bare l) v))
+            (g : IfOk y (λ i. Kept s (inner w).level (tally_of i u))) where
+          pub second_off : (b : ℕ) → y ≡ Err b → tallied y u ≡ walked s w (suc d) (tally_of st n)
+          second_off b e =
+              let f : Err b ≡ walked s (inner w) d (tally_of (bare l) v) = rw e at h in
+              rw (e, goes, ← left, ← f)
 
-          -- into the second
-          module _ (c : ℕ) (bc : Bare l c) where
-            second_tally : tally_of c m1 u1 ≡ bared (tally_of l m1 u1)
-            second_tally =
-                same_tally (tally_of c m1 u1) (bared (tally_of l m1 u1)) bc.place bc.parts bc.masks.0 bc.masks.1 refl refl refl
+          module _ (r : State) (er : y ≡ Ok r) (i : Head) (ei : i ≡ head_at s st.at) where
+            pub both_told : Ok (tally_of (joined i.left i.right st l r) (faulted (fault_after n.fault (right_states i.left i.right l r) st.at u.fault) u))
+                ≡ walked s w (suc d) (tally_of st n)
+            both_told =
+                let f : Ok (tally_of r u) ≡ walked s (inner w) d (tally_of (bare l) v) = rw er at h in
+                let j : i ≡ head s st.at = ei ∙ head_is s st.at a.inside in
+                rw (goes, ← left, ← f, j)
 
-            pub second_asked : Asked s m1 u1 c d (way + 4)
-            second_asked =
-                let k = left.2 in
-                record {
-                  sound = a.sound;
-                  two = left.1;
-                  kept = record {
-                    start = omega (arith, bc.place, k.start);
-                    within = omega (arith, bc.place, k.within);
-                    parts = omega (arith, bc.place, bc.parts, k.parts);
-                    few = λ i. omega (arith, bc.place, k.few i);
-                    room = k.room;
-                    deep = k.deep;
-                  };
-                  level = omega (arith, a.level);
-                }
-
-            both : walked s way (suc d) (tally_of st marks uses)
-                ≡ and_on (walked s (way + 4) d (tally_of c m1 u1))
-                (λ r. Going (met (head s (place_in st)).left (head s (place_in st)).right (tally_of st marks uses) (tally_of l m1 u1) r))
-            both = goes ∙ rw (← first_tally, left.0, ← second_tally)
-
-            module _ (y2 : Walked) (m2 u2 : List ℕ) (t2 : Told s (open_of (way + 4)) (walked s (way + 4) d (tally_of c m1 u1)) y2 m2 u2) where
-              pub second_off : (e r : ℕ) → y2 ≡ Off e → r ≡ wired y2
-                  → Left s (open_of way) (walked s way (suc d) (tally_of st marks uses)) r m2 u2
-              second_off e r q w =
-                  let k = told_off s (open_of (way + 4)) e (walked s (way + 4) d (tally_of c m1 u1)) y2 m2 u2 q t2 in
-                  stopped_left s (open_of way) e r (walked s way (suc d) (tally_of st marks uses)) m2 u2 (both ∙ rw k.0) (w ∙ rw q) k.1
-
-              -- out of both
-              module _ (r : ℕ) (qr : y2 ≡ On r) where
-                right : (walked s (way + 4) d (tally_of c m1 u1) ≡ Going (tally_of r m2 u2)) × (length m2 ≡ 2)
-                    × Kept s (open_of (way + 4)) (tally_of r m2 u2)
-                right = told_on s (open_of (way + 4)) r (walked s (way + 4) d (tally_of c m1 u1)) y2 m2 u2 qr t2
-
-                pub two_marks : length m2 ≡ 2
-                two_marks = right.1
-
-                pub beside_left : (h : Head) (ok : Bool) (f : List ℕ) (j : ℕ) → h ≡ head_at s (place_in st)
-                    → ok ≡ right_states h.left h.right l r
-                    → f ≡ set m2 0 (fault_after (get_or marks 0 0) ok (place_in st) (get_or m2 0 0))
-                    → Joins st l r h.left h.right j
-                    → Left s (open_of way) (walked s way (suc d) (tally_of st marks uses)) j f u2
-                unfolding Left
-                beside_left h ok f j eh seen ef joins =
-                    let here : h ≡ head s (place_in st) = eh ∙ head_is s (place_in st) a.inside in
-                    let wp = (head s (place_in st)).left in
-                    let wq = (head s (place_in st)).right in
-                    let eok : ok ≡ right_states wp wq l r = rw here at seen in
-                    let v2 : Joins st l r wp wq j = rw here at joins in
-                    let x0 : ℕ = fault_after (get_or marks 0 0) ok (place_in st) (get_or m2 0 0) in
-                    let f0 : get_or f 0 0 ≡ x0 = ap (λ (i : List ℕ). get_or i 0 0) ef ∙ get_or-set_same m2 0 x0 0 (omega (arith, right.1)) in
-                    let f1 : get_or f 1 0 ≡ get_or m2 1 0
-                    = ap (λ (i : List ℕ). get_or i 1 0) ef ∙ get_or-set_other m2 0 1 x0 0 (λ q. omega arith) in
-                    let k = right.2 in
-                    let e : tally_of j f u2 ≡ met wp wq (tally_of st marks uses) (tally_of l m1 u1) (tally_of r m2 u2)
-                    = same_tally (tally_of j f u2) (met wp wq (tally_of st marks uses) (tally_of l m1 u1) (tally_of r m2 u2)) v2.place
-                    v2.parts v2.tests v2.writes (f0 ∙ rw eok) f1 refl in
-                    let kept : Kept s (open_of way) (tally_of j f u2)
-                    = record {
-                      start = omega (arith, v2.place, k.start);
-                      within = omega (arith, v2.place, k.within);
-                      parts = omega (arith, v2.place, v2.parts, k.parts);
-                      few = λ i. omega (arith, v2.place, k.few i);
-                      room = k.room;
-                      deep = omega (arith, f1, k.deep);
-                    } in
-                    rw (both, right.0) (e, ap length ef ∙ length-set m2 0 x0 ∙ right.1, rw (← e) kept)
+            pub both_kept : (f : Option ℕ) → Kept s w.level (tally_of (joined i.left i.right st l r) (faulted f u))
+            both_kept f =
+                let c : Kept s (inner w).level (tally_of r u) = rw er at g in
+                record { within = c.within; parts = c.parts; few = c.few; room = c.room; deep = omega (arith, c.deep) }

@@ -9,14 +9,14 @@ use mathlib.Core.Bool.{Bool, true, false, cond}
 use mathlib.Core.List.{List}
 use lib.Dec.{eqb}
 use borrow.Author.Tests.{eqb-true, eqb-false, ne_eqb}
-use lib.ListN.{length, get_or, set, length-set}
-use lib.Seq.{get_or-set_same, get_or-set_other}
+use lib.ListN.{length, get_or}
 use Rattle.rules.specs.Parts.{Part, Id, Drop, Test, Set, Not, Sum, Seq, Beside, Table, Open, parts, deep}
 use Rattle.rules.specs.Reading.{part_at, head, built, after, below}
 use Rattle.rules.proofs.CodeLaws.{by_code}
-use Rattle.typing.specs.Walking.{shut, noted, note_use}
+use Rattle.typing.specs.declared.Use.{Use}
+use Rattle.typing.specs.Walking.{shut, noted, unused, one_more_use, note_use}
 use Rattle.typing.specs.Summing.{total, reach, top}
-use Rattle.typing.proofs.TallyLaws.{use_room}
+use Rattle.typing.proofs.TallyLaws.{use_same, use_other, noted_room}
 
 -- each use of a table filled with what it stands for
 unfoldable pub filled : (ℕ → Part) → Part → Part
@@ -90,23 +90,14 @@ parts_filled e g h n (Open x r w) z = h x
 once : (a b : ℕ) → (a + 1) * b ≡ a * b + b
 once a b = add-mul a 1 b ∙ ap (λ (i : ℕ). a * b + i) (one-mul b)
 
-module _ (e : ℕ → ℕ) (l : List ℕ) (x o : ℕ) (len : length l ≡ 32) where
-  pub count_other : (y : ℕ) → y < 16 → (y ≡ x → ⊥) → get_or (note_use x o l) y 0 ≡ get_or l y 0
-  unfolding note_use
-  count_other y h q =
-      get_or-set_other (set l x (get_or l x 0 + 1)) (16 + x) y (max (get_or (set l x (get_or l x 0 + 1)) (16 + x) 0) o) 0 (λ z. omega arith)
-      ∙ get_or-set_other l x y (get_or l x 0 + 1) 0 q
-
-  count_same : x < 16 → get_or (note_use x o l) x 0 ≡ get_or l x 0 + 1
-  unfolding note_use
-  count_same h =
-      get_or-set_other (set l x (get_or l x 0 + 1)) (16 + x) x (max (get_or (set l x (get_or l x 0 + 1)) (16 + x) 0) o) 0 (λ z. omega arith)
-      ∙ get_or-set_same l x (get_or l x 0 + 1) 0 (omega arith)
+module _ (e : ℕ → ℕ) (l : List Use) (x o : ℕ) (len : length l ≡ 16) where
+  use_is : x < 16 → get_or (note_use x o l) x unused ≡ one_more_use o (get_or l x unused)
+  use_is h = use_same l x o (omega arith)
 
   total_low : (n : ℕ) → n ≤ 16 → n ≤ x → total e (note_use x o l) n ≡ total e l n
   unfolding total
   total_low zero a b = refl
-  total_low (suc n) a b = rw (total_low n (omega arith) (omega arith), count_other n (omega arith) (λ z. omega arith))
+  total_low (suc n) a b = rw (total_low n (omega arith) (omega arith), use_other l x o n (λ z. omega arith))
 
   total_use : (n : ℕ) → n ≤ 16 → x < n → total e (note_use x o l) n ≡ total e l n + e x
   unfolding total
@@ -114,29 +105,16 @@ module _ (e : ℕ → ℕ) (l : List ℕ) (x o : ℕ) (len : length l ≡ 32) wh
   total_use (suc n) a b = go (λ h. total_use n (omega arith) h) (eqb n x) refl
     where
       go : (x < n → total e (note_use x o l) n ≡ total e l n + e x) → (t : Bool) → eqb n x ≡ t
-          → total e (note_use x o l) n + get_or (note_use x o l) n 0 * e n ≡ total e l n + get_or l n 0 * e n + e x
+          → total e (note_use x o l) n + (get_or (note_use x o l) n unused).count * e n ≡ total e l n + (get_or l n unused).count * e n + e x
       go ih true q =
           let z : n ≡ x = eqb-true n x q in
-          rw (z, total_low x (omega arith) (omega arith), count_same (omega arith), once (get_or l x 0) (e x)) (omega arith)
+          rw (z, total_low x (omega arith) (omega arith), use_is (omega arith), once (get_or l x unused).count (e x)) (omega arith)
       go ih false q =
           let z = eqb-false n x q in
-          rw (ih (omega (arith, z)), count_other n (omega arith) z) (omega arith)
-
-pub noted_room : (p : Part) (o : ℕ) (l : List ℕ) → length (noted p o l) ≡ length l
-unfolding noted
-noted_room Id o l = refl
-noted_room Drop o l = refl
-noted_room (Test f v) o l = refl
-noted_room (Set f v) o l = refl
-noted_room (Not p) o l = noted_room p o l
-noted_room (Sum p q) o l = noted_room q o (noted p o l) ∙ noted_room p o l
-noted_room (Seq p q) o l = noted_room q o (noted p o l) ∙ noted_room p o l
-noted_room (Beside wp wq p q) o l = noted_room q (suc o) (noted p (suc o) l) ∙ noted_room p (suc o) l
-noted_room (Table x r w start p) o l = use_room l x o
-noted_room (Open x r w) o l = use_room l x o
+          rw (ih (omega (arith, z)), use_other l x o n z) (omega arith)
 
 -- the counts that the walk notes are the uses
-pub total_noted : (e : ℕ → ℕ) (n : ℕ) → n ≤ 16 → (p : Part) (o : ℕ) (l : List ℕ) → Shut n p → length l ≡ 32
+pub total_noted : (e : ℕ → ℕ) (n : ℕ) → n ≤ 16 → (p : Part) (o : ℕ) (l : List Use) → Shut n p → length l ≡ 16
     → total e (noted p o l) n ≡ total e l n + more e p
 unfolding noted more
 total_noted e n h Id o l z k = omega arith
@@ -151,15 +129,15 @@ total_noted e n h (Seq p q) o l z k =
 total_noted e n h (Beside wp wq p q) o l z k =
     omega (
       arith,
-      total_noted e n h p (suc o) l z.0 k,
-      total_noted e n h q (suc o) (noted p (suc o) l) z.1 (noted_room p (suc o) l ∙ k),
+      total_noted e n h p (o + 1) l z.0 k,
+      total_noted e n h q (o + 1) (noted p (o + 1) l) z.1 (noted_room p (o + 1) l ∙ k),
     )
 total_noted e n h (Table x r w start p) o l z k = absurd z
 total_noted e n h (Open x r w) o l z k = total_use e l x o k n h z
 
 -- n of the whole policy: its own parts, and for each table its uses times what a use of it adds
-pub whole_parts : (s : List ℕ) (named : ℕ → Part) (e : ℕ → ℕ) (n d at : ℕ) (l : List ℕ) → ((x : ℕ) → parts (named x) ≡ 1 + e x) → n ≤ 16
-    → Shut n (part_at s (shut s) d at) → length l ≡ 32 → total e l n ≡ 0
+pub whole_parts : (s : List ℕ) (named : ℕ → Part) (e : ℕ → ℕ) (n d at : ℕ) (l : List Use) → ((x : ℕ) → parts (named x) ≡ 1 + e x) → n ≤ 16
+    → Shut n (part_at s (shut s) d at) → length l ≡ 16 → total e l n ≡ 0
     → parts (part_at s named d at) ≡ parts (part_at s (shut s) d at) + total e (noted (part_at s (shut s) d at) 0 l) n
 whole_parts s named e n d at l h k z len empty =
     let p = part_at s (shut s) d at in
@@ -176,7 +154,7 @@ far e o (Set f v) = 0
 far e o (Not p) = far e o p
 far e o (Sum p q) = max (far e o p) (far e o q)
 far e o (Seq p q) = max (far e o p) (far e o q)
-far e o (Beside wp wq p q) = max (far e (suc o) p) (far e (suc o) q)
+far e o (Beside wp wq p q) = max (far e (o + 1) p) (far e (o + 1) q)
 far e o (Table x r w start p) = o + e x
 far e o (Open x r w) = o + e x
 
@@ -204,60 +182,50 @@ deep_filled e g h n o (Seq p q) z =
     two_far o (deep (filled g p)) (deep (filled g q)) (deep p) (deep q) (far e o p) (far e o q) (deep_filled e g h n o p z.0)
     (deep_filled e g h n o q z.1)
 deep_filled e g h n o (Beside wp wq p q) z =
-    let a : o + suc (max (deep (filled g p)) (deep (filled g q))) ≡ suc o + max (deep (filled g p)) (deep (filled g q)) = omega arith in
-    let b : o + suc (max (deep p) (deep q)) ≡ suc o + max (deep p) (deep q) = omega arith in
-    a ∙ two_far (suc o) (deep (filled g p)) (deep (filled g q)) (deep p) (deep q) (far e (suc o) p) (far e (suc o) q)
-    (deep_filled e g h n (suc o) p z.0) (deep_filled e g h n (suc o) q z.1)
-    ∙ ap (λ (i : ℕ). max i (max (far e (suc o) p) (far e (suc o) q))) (sym b)
+    let a : o + suc (max (deep (filled g p)) (deep (filled g q))) ≡ o + 1 + max (deep (filled g p)) (deep (filled g q)) = omega arith in
+    let b : o + suc (max (deep p) (deep q)) ≡ o + 1 + max (deep p) (deep q) = omega arith in
+    a ∙ two_far (o + 1) (deep (filled g p)) (deep (filled g q)) (deep p) (deep q) (far e (o + 1) p) (far e (o + 1) q)
+    (deep_filled e g h n (o + 1) p z.0) (deep_filled e g h n (o + 1) q z.1)
+    ∙ ap (λ (i : ℕ). max i (max (far e (o + 1) p) (far e (o + 1) q))) (sym b)
 deep_filled e g h n o (Table x r w start p) z = absurd z
 deep_filled e g h n o (Open x r w) z = omega (arith, h x)
 
 -- a table that was not used was used nowhere deep
-abbrev pub Fresh : List ℕ → Type 0
-Fresh l = (x : ℕ) → x < 16 → get_or l x 0 ≡ 0 → get_or l (16 + x) 0 ≡ 0
+abbrev pub Fresh : List Use → Type 0
+Fresh l = (x : ℕ) → x < 16 → (get_or l x unused).count ≡ 0 → (get_or l x unused).level ≡ 0
 
-module _ (e : ℕ → ℕ) (l : List ℕ) (x o : ℕ) (len : length l ≡ 32) (hx : x < 16) where
-  pub top_other : (y : ℕ) → y < 16 → (y ≡ x → ⊥) → get_or (note_use x o l) (16 + y) 0 ≡ get_or l (16 + y) 0
-  unfolding note_use
-  top_other y h q =
-      get_or-set_other (set l x (get_or l x 0 + 1)) (16 + x) (16 + y) (max (get_or (set l x (get_or l x 0 + 1)) (16 + x) 0) o) 0
-      (λ z. q (omega arith))
-      ∙ get_or-set_other l x (16 + y) (get_or l x 0 + 1) 0 (λ z. omega arith)
-
-  pub top_same : get_or (note_use x o l) (16 + x) 0 ≡ max (get_or l (16 + x) 0) o
-  unfolding note_use
-  top_same =
-      get_or-set_same (set l x (get_or l x 0 + 1)) (16 + x) (max (get_or (set l x (get_or l x 0 + 1)) (16 + x) 0) o) 0
-      (omega (arith, length-set l x (get_or l x 0 + 1)))
-      ∙ ap (λ (i : ℕ). max i o) (get_or-set_other l x (16 + x) (get_or l x 0 + 1) 0 (λ z. omega arith))
-
+module _ (e : ℕ → ℕ) (l : List Use) (x o : ℕ) (len : length l ≡ 16) (hx : x < 16) where
   fresh_use : Fresh l → Fresh (note_use x o l)
   fresh_use f y h = go (eqb y x) refl
     where
-      go : (t : Bool) → eqb y x ≡ t → get_or (note_use x o l) y 0 ≡ 0 → get_or (note_use x o l) (16 + y) 0 ≡ 0
+      go : (t : Bool) → eqb y x ≡ t → (get_or (note_use x o l) y unused).count ≡ 0 → (get_or (note_use x o l) y unused).level ≡ 0
       go true q k =
           let z : y ≡ x = eqb-true y x q in
-          let c : get_or (note_use x o l) x 0 ≡ 0 = rw z at k in
-          absurd (omega (arith, count_same e l x o len hx))
+          let c : (get_or (note_use x o l) x unused).count ≡ 0 = rw z at k in
+          let d : (get_or l x unused).count + 1 ≡ 0 = rw (use_is e l x o len hx) at c in
+          absurd (omega arith)
       go false q k =
-          let z = eqb-false y x q in
-          top_other y h z ∙ f y h (sym (count_other e l x o len y h z) ∙ k)
+          let z = use_other l x o y (eqb-false y x q) in
+          let c : (get_or l y unused).count ≡ 0 = rw z at k in
+          rw z (f y h c)
 
   reach_same : Fresh l → reach e (note_use x o l) x ≡ max (reach e l x) (o + e x)
   reach_same f =
-      rw (count_same e l x o len hx, top_same, ne_eqb (get_or l x 0 + 1) 0 (λ z. omega arith)) (go (eqb (get_or l x 0) 0) refl)
+      rw (use_is e l x o len hx, ne_eqb ((get_or l x unused).count + 1) 0 (λ z. omega arith))
+      (go (eqb (get_or l x unused).count 0) refl)
     where
-      go : (t : Bool) → eqb (get_or l x 0) 0 ≡ t → max (get_or l (16 + x) 0) o + e x ≡ max (cond t 0 (get_or l (16 + x) 0 + e x)) (o + e x)
-      go true q = let z = f x hx (eqb-true (get_or l x 0) 0 q) in omega (arith, z)
+      go : (t : Bool) → eqb (get_or l x unused).count 0 ≡ t
+          → max (get_or l x unused).level o + e x ≡ max (cond t 0 ((get_or l x unused).level + e x)) (o + e x)
+      go true q = let z = f x hx (eqb-true (get_or l x unused).count 0 q) in omega (arith, z)
       go false q = omega arith
 
-  reach_other : (y : ℕ) → y < 16 → (y ≡ x → ⊥) → reach e (note_use x o l) y ≡ reach e l y
-  reach_other y h q = rw (count_other e l x o len y h q, top_other y h q)
+  reach_other : (y : ℕ) → (y ≡ x → ⊥) → reach e (note_use x o l) y ≡ reach e l y
+  reach_other y q = rw (use_other l x o y q)
 
   top_low : (n : ℕ) → n ≤ 16 → n ≤ x → top e (note_use x o l) n ≡ top e l n
   unfolding top
   top_low zero a b = refl
-  top_low (suc n) a b = rw (top_low n (omega arith) (omega arith), reach_other n (omega arith) (λ z. omega arith))
+  top_low (suc n) a b = rw (top_low n (omega arith) (omega arith), reach_other n (λ z. omega arith))
 
   top_use : Fresh l → (n : ℕ) → n ≤ 16 → x < n → top e (note_use x o l) n ≡ max (top e l n) (o + e x)
   unfolding top
@@ -277,9 +245,9 @@ module _ (e : ℕ → ℕ) (l : List ℕ) (x o : ℕ) (len : length l ≡ 32) (h
           rw (z, top_low x (omega arith) (omega arith), reach_same f) (keep (top e l x) (reach e l x) (o + e x))
       go ih false q =
           let z = eqb-false n x q in
-          rw (ih (omega (arith, z)), reach_other n (omega arith) z) (swap (top e l n) (reach e l n) (o + e x))
+          rw (ih (omega (arith, z)), reach_other n z) (swap (top e l n) (reach e l n) (o + e x))
 
-fresh_noted : (e : ℕ → ℕ) (n : ℕ) → n ≤ 16 → (p : Part) (o : ℕ) (l : List ℕ) → Shut n p → length l ≡ 32 → Fresh l → Fresh (noted p o l)
+fresh_noted : (e : ℕ → ℕ) (n : ℕ) → n ≤ 16 → (p : Part) (o : ℕ) (l : List Use) → Shut n p → length l ≡ 16 → Fresh l → Fresh (noted p o l)
 unfolding noted
 fresh_noted e n h Id o l z k f = f
 fresh_noted e n h Drop o l z k f = f
@@ -291,7 +259,7 @@ fresh_noted e n h (Sum p q) o l z k f =
 fresh_noted e n h (Seq p q) o l z k f =
     fresh_noted e n h q o (noted p o l) z.1 (noted_room p o l ∙ k) (fresh_noted e n h p o l z.0 k f)
 fresh_noted e n h (Beside wp wq p q) o l z k f =
-    fresh_noted e n h q (suc o) (noted p (suc o) l) z.1 (noted_room p (suc o) l ∙ k) (fresh_noted e n h p (suc o) l z.0 k f)
+    fresh_noted e n h q (o + 1) (noted p (o + 1) l) z.1 (noted_room p (o + 1) l ∙ k) (fresh_noted e n h p (o + 1) l z.0 k f)
 fresh_noted e n h (Table x r w start p) o l z k f = absurd z
 fresh_noted e n h (Open x r w) o l z k f = fresh_use e l x o k (omega arith) f
 
@@ -305,7 +273,7 @@ two_top : (a b c d f : ℕ) → a ≡ max b c → d ≡ max a f → d ≡ max b 
 two_top a b c d f h k = k ∙ ap (λ (i : ℕ). max i f) h ∙ max_assoc b c f
 
 -- the depths that the walk notes are those of the uses
-pub top_noted : (e : ℕ → ℕ) (n : ℕ) → n ≤ 16 → (p : Part) (o : ℕ) (l : List ℕ) → Shut n p → length l ≡ 32 → Fresh l
+pub top_noted : (e : ℕ → ℕ) (n : ℕ) → n ≤ 16 → (p : Part) (o : ℕ) (l : List Use) → Shut n p → length l ≡ 16 → Fresh l
     → top e (noted p o l) n ≡ max (top e l n) (far e o p)
 unfolding noted far
 top_noted e n h Id o l z k f = max_zero (top e l n)
@@ -322,15 +290,15 @@ top_noted e n h (Seq p q) o l z k f =
     (top_noted e n h p o l z.0 k f)
     (top_noted e n h q o (noted p o l) z.1 (noted_room p o l ∙ k) (fresh_noted e n h p o l z.0 k f))
 top_noted e n h (Beside wp wq p q) o l z k f =
-    two_top (top e (noted p (suc o) l) n) (top e l n) (far e (suc o) p) (top e (noted q (suc o) (noted p (suc o) l)) n) (far e (suc o) q)
-    (top_noted e n h p (suc o) l z.0 k f)
-    (top_noted e n h q (suc o) (noted p (suc o) l) z.1 (noted_room p (suc o) l ∙ k) (fresh_noted e n h p (suc o) l z.0 k f))
+    two_top (top e (noted p (o + 1) l) n) (top e l n) (far e (o + 1) p) (top e (noted q (o + 1) (noted p (o + 1) l)) n) (far e (o + 1) q)
+    (top_noted e n h p (o + 1) l z.0 k f)
+    (top_noted e n h q (o + 1) (noted p (o + 1) l) z.1 (noted_room p (o + 1) l ∙ k) (fresh_noted e n h p (o + 1) l z.0 k f))
 top_noted e n h (Table x r w start p) o l z k f = absurd z
 top_noted e n h (Open x r w) o l z k f = top_use e l x o k (omega arith) f n h z
 
 -- D of the whole policy: its own depth, or that of the deepest use with the table's body below it
-pub whole_deep : (s : List ℕ) (named : ℕ → Part) (e : ℕ → ℕ) (n d at : ℕ) (l : List ℕ) → ((x : ℕ) → deep (named x) ≡ e x) → n ≤ 16
-    → Shut n (part_at s (shut s) d at) → length l ≡ 32 → Fresh l → top e l n ≡ 0
+pub whole_deep : (s : List ℕ) (named : ℕ → Part) (e : ℕ → ℕ) (n d at : ℕ) (l : List Use) → ((x : ℕ) → deep (named x) ≡ e x) → n ≤ 16
+    → Shut n (part_at s (shut s) d at) → length l ≡ 16 → Fresh l → top e l n ≡ 0
     → deep (part_at s named d at) ≡ max (deep (part_at s (shut s) d at)) (top e (noted (part_at s (shut s) d at) 0 l) n)
 whole_deep s named e n d at l h k z len f empty =
     let p = part_at s (shut s) d at in

@@ -1,16 +1,18 @@
 -- The verdict from what stands after all bodies, and the numbers 1 to 4 before them.
-use Rattle.std.specs.Prelude.{Err, Ok}
-use Prim.Native.Nat.{ℕ, zero, suc, max, ◌+◌, ◌-◌, ◌<◌, ◌≤◌}
+use Rattle.std.specs.Prelude.{Option, None, Some, Result, Err, Ok}
+use Rattle.std.specs.Option.{option_or}
+use Prim.Native.Nat.{ℕ, suc, max, ◌+◌, ◌<◌, ◌≤◌}
 use native.Mathlib.Omega.{arith}
 use native.Mathlib.Numerals.{add-one}
 use mathlib.Core.Path.{◌≡◌, refl, sym, ◌∙◌}
 use mathlib.Core.Bool.{Bool, true, false, not, ◌&&◌, true≢false}
+use mathlib.Core.Logic.{◌⊎◌, ⊎_elim}
 use mathlib.Core.List.{List, [], ◌∷◌}
 use lib.Dec.{leb}
-use lib.ListN.{length, get_or, replicate}
+use lib.ListN.{length}
 use borrow.Author.Tests.{le-leb, leb-true, not-true, not-false}
 use Rattle.rules.specs.declared.Reason.TheVariants.{BookLength, Counts, Lengths, EntryMasks, Form, Limits, Typing}
-use Rattle.rules.specs.Books.{Bytes, most_bytes, most_fields, most_tables, most_parts, most_beside, first_body, entries}
+use Rattle.rules.specs.Books.{most_bytes, most_fields, most_tables, most_parts, most_beside, first_body, entries}
 use Rattle.rules.specs.Checks.{no_place, in_book}
 use Rattle.rules.specs.Reading.{fields_of, tables_of, body_start, masks_right, read_entries, policy_of, wrongs_in, misfits_in}
 use Rattle.rules.specs.Reading.{typing_faults, sizes_of, verdict}
@@ -21,59 +23,57 @@ use Rattle.rules.proofs.Refusing.{LengthKept, CountsKept, LimitsKept, refused_le
 use Rattle.rules.proofs.Refusing.{refused_form, refused_limits, refused_typing}
 use Rattle.typing.proofs.EntryLaws.{entries_end}
 use Rattle.typing.specs.declared.Sums.{Sums}
-use Rattle.typing.specs.declared.Summed.{Summed}
-use Rattle.typing.specs.declared.Summed.TheVariants.{All, Stop}
-use Rattle.typing.specs.Walking.{first_of, mark}
-use Rattle.typing.specs.Summing.{wrongs_of, misfits_of, wrongs_from, misfits_from, total_of, top_of, Fronted, Cleared, So}
+use Rattle.typing.specs.declared.Notes.{Notes}
+use Rattle.typing.specs.Walking.{mark}
+use Rattle.typing.specs.Summing.{wrongs_of, misfits_of, wrongs_from, misfits_from, total_of, top_of, Fronted, So}
 use Rattle.typing.specs.Summing.{Turned, Ends, Ended}
 use Rattle.typing.proofs.TallyLaws.{mark_append, first_none}
 use Rattle.typing.proofs.SumLaws.{wrongs_end, misfits_end}
 
 -- ---- after the last table
 
-pub so_ends : (s : List ℕ) (z : Sums) (marks uses : List ℕ) (y : ℕ) → y ≡ suc (tables_of s) → So s y z marks uses → Ended s (All z) marks
+pub so_ends : (s : List ℕ) (z : Sums) (n : Notes) (y : ℕ) → y ≡ suc (tables_of s) → So s y z n → Ended s (Ok z) n
 unfolding Ended
-so_ends s z marks uses y q so =
-    let count : z.parts ≡ so.own + total_of s uses (suc (tables_of s)) = rw q at so.count in
-    let down : z.deep ≡ max so.own_deep (top_of s uses (suc (tables_of s))) = rw q at so.down in
-    let wrong : first_of (get_or marks 0 0) (wrongs_from s (suc (tables_of s))) ≡ wrongs_of s = rw q at so.fault in
-    let unfit : first_of z.unfit (misfits_from s (suc (tables_of s))) ≡ misfits_of s = rw q at so.unfit in
+so_ends s z n y q so =
+    let count : z.parts ≡ so.own + total_of s n.uses (suc (tables_of s)) = rw q at so.count in
+    let down : z.deep ≡ max so.own_deep (top_of s n.uses (suc (tables_of s))) = rw q at so.down in
+    let wrong : option_or n.fault (wrongs_from s (suc (tables_of s))) ≡ wrongs_of s = rw q at so.fault in
+    let unfit : option_or z.unfit (misfits_from s (suc (tables_of s))) ≡ misfits_of s = rw q at so.unfit in
     record {
       form = so.form ∙ entries_end s (suc (tables_of s)) y (omega arith);
       count = so.all ∙ sym count;
       down = so.deepest ∙ sym down;
-      wrong = sym wrong ∙ rw (wrongs_end s) (first_none (get_or marks 0 0));
+      wrong = sym wrong ∙ rw (wrongs_end s) (first_none n.fault);
       unfit = sym unfit ∙ rw (misfits_end s) (first_none z.unfit);
     }
 
-pub so_after : (s : List ℕ) (y : ℕ) (w : Summed) (z : Sums) (marks uses : List ℕ) → w ≡ All z → Turned s y w marks uses
-    → So s (suc y) z marks uses
+pub so_after : (s : List ℕ) (y : ℕ) (w : Result Sums ℕ) (z : Sums) (n : Notes) → w ≡ Ok z → Turned s y w n → So s (suc y) z n
 unfolding Turned
-so_after s y w z marks uses q t = rw q at t
+so_after s y w z n q t = rw q at t
 
-pub off_after : (s : List ℕ) (y : ℕ) (w : Summed) (a : ℕ) (marks uses : List ℕ) → w ≡ Stop a → Turned s y w marks uses → Ended s w marks
+pub off_after : (s : List ℕ) (y : ℕ) (w : Result Sums ℕ) (a : ℕ) (n : Notes) → w ≡ Err a → Turned s y w n → Ended s (Err a) n
 unfolding Turned Ended
-off_after s y w a marks uses q t = rw q (rw q at t)
+off_after s y w a n q t = rw q at t
 
-pub ended_all : (s : List ℕ) (w : Summed) (z : Sums) (marks : List ℕ) → w ≡ All z → Ended s w marks → Ends s z (get_or marks 0 0)
+pub ended_all : (s : List ℕ) (w : Result Sums ℕ) (z : Sums) (n : Notes) → w ≡ Ok z → Ended s w n → Ends s z n.fault
 unfolding Ended
-ended_all s w z marks q t = rw q at t
+ended_all s w z n q t = rw q at t
 
-pub ended_off : (s : List ℕ) (w : Summed) (a : ℕ) (marks : List ℕ) → w ≡ Stop a → Ended s w marks
+pub ended_off : (s : List ℕ) (w : Result Sums ℕ) (a : ℕ) (n : Notes) → w ≡ Err a → Ended s w n
     → read_entries s (suc (tables_of s)) 0 ≡ Err a
 unfolding Ended
-ended_off s w a marks q t = rw q at t
+ended_off s w a n q t = rw q at t
 
 -- ---- the numbers 5 to 7
 
 -- a fault that is marked is the first of the list
-marked_first : (l : List ℕ) (f : ℕ) → mark l ≡ f → (f ≡ 0 → ⊥) → (r : List ℕ) × (l ≡ (f - 1) ∷ r)
-marked_first [] f e h = absurd (h (sym e))
-marked_first (a ∷ l) f e h = let q : a ≡ f - 1 = omega arith in (l, rw q)
+marked_first : (l : List ℕ) (f : ℕ) → mark l ≡ Some f → (r : List ℕ) × (l ≡ f ∷ r)
+marked_first [] f e = absurd cc
+marked_first (a ∷ l) f e = let q : a ≡ f = cc in (l, rw q)
 
-marked_none : (l : List ℕ) → mark l ≡ 0 → l ≡ []
+marked_none : (l : List ℕ) → mark l ≡ None → l ≡ []
 marked_none [] e = refl
-marked_none (a ∷ l) e = absurd (omega arith)
+marked_none (a ∷ l) e = absurd cc
 
 module _ (s : List ℕ) (F : Fronted s) where
   counts : CountsKept s
@@ -82,7 +82,7 @@ module _ (s : List ℕ) (F : Fronted s) where
   pub form_refused : (a : ℕ) → read_entries s (suc (tables_of s)) 0 ≡ Err a → Err (in_book Form a) ≡ verdict s
   form_refused a e = sym (refused_form s F.long counts F.lengths F.masks a e)
 
-  module _ (z : Sums) (fault : ℕ) (E : Ends s z fault) where
+  module _ (z : Sums) (fault : Option ℕ) (E : Ends s z fault) where
     readable : Readable s
     readable = record {
       bytes = F.long;
@@ -93,53 +93,37 @@ module _ (s : List ℕ) (F : Fronted s) where
       form = (length s, E.form);
     }
 
-    pub many_parts : most_parts < z.parts → Err (no_place Limits) ≡ verdict s
-    many_parts h = sym (refused_limits s readable (λ k. omega (arith, k.0, E.count)))
+    pub over_limits : (most_parts < z.parts) ⊎ (most_beside < z.deep) → Err (no_place Limits) ≡ verdict s
+    over_limits = ⊎_elim
+        (λ h. sym (refused_limits s readable (λ k. omega (arith, k.0, E.count))))
+        (λ h. sym (refused_limits s readable (λ k. omega (arith, k.1, E.down))))
 
-    module _ (few : z.parts ≤ most_parts) where
-      pub too_deep : most_beside < z.deep → Err (no_place Limits) ≡ verdict s
-      too_deep h = sym (refused_limits s readable (λ k. omega (arith, k.1, E.down)))
+    module _ (few : z.parts ≤ most_parts) (flat : z.deep ≤ most_beside) (first : Option ℕ) (ef : first ≡ option_or fault z.unfit) where
+      limits : LimitsKept s
+      limits = (omega (arith, E.count), omega (arith, E.down))
 
-      module _ (flat : z.deep ≤ most_beside) where
-        limits : LimitsKept s
-        limits = (omega (arith, E.count), omega (arith, E.down))
+      faults_are : mark (typing_faults (policy_of s)) ≡ first
+      unfolding typing_faults wrongs_of misfits_of
+      faults_are =
+          mark_append (wrongs_in (first_body (length (policy_of s).tables)) (entries (policy_of s)))
+          (misfits_in (first_body (length (policy_of s).tables)) (entries (policy_of s))) ∙ rw (E.wrong, E.unfit) (sym ef)
 
-        faults_are : mark (typing_faults (policy_of s)) ≡ first_of fault z.unfit
-        unfolding typing_faults wrongs_of misfits_of
-        faults_are =
-            mark_append (wrongs_in (first_body (length (policy_of s).tables)) (entries (policy_of s)))
-            (misfits_in (first_body (length (policy_of s).tables)) (entries (policy_of s))) ∙ rw (E.wrong, E.unfit)
+      pub not_typed : (f : ℕ) → first ≡ Some f → Err (in_book Typing f) ≡ verdict s
+      not_typed f e =
+          let k = marked_first (typing_faults (policy_of s)) f (faults_are ∙ e) in
+          sym (refused_typing s readable limits f k.0 k.1)
 
-        refused_at_lem : (f : ℕ) → mark (typing_faults (policy_of s)) ≡ f → (f ≡ 0 → ⊥) → Err (in_book Typing (f - 1)) ≡ verdict s
-        refused_at_lem f e h =
-            let k = marked_first (typing_faults (policy_of s)) f e h in
-            sym (refused_typing s readable limits (f - 1) k.0 k.1)
-
-        pub wrong_part : (fault ≡ 0 → ⊥) → Err (in_book Typing (fault - 1)) ≡ verdict s
-        wrong_part h = refused_at_lem fault (faults_are ∙ own fault h) h
-          where
-            own : (f : ℕ) → (f ≡ 0 → ⊥) → first_of f z.unfit ≡ f
-            own zero h = absurd (h refl)
-            own (suc f) h = refl
-
-        module _ (right : fault ≡ 0) where
-          then_unfit : mark (typing_faults (policy_of s)) ≡ z.unfit
-          then_unfit = faults_are ∙ rw right
-
-          pub wrong_body_lem : (z.unfit ≡ 0 → ⊥) → Err (in_book Typing (z.unfit - 1)) ≡ verdict s
-          wrong_body_lem h = refused_at_lem z.unfit then_unfit h
-
-          pub accepted : z.unfit ≡ 0 → (k m : ℕ) → k ≡ fields_of s → m ≡ tables_of s
-              → Ok (record { fields = k; tables = m; parts = z.parts; deep = z.deep }) ≡ verdict s
-          unfolding sizes_of
-          accepted h k m ek em =
-              let passed : Passed s = record {
-                readable = readable;
-                parts = limits.0;
-                deep = limits.1;
-                typed = marked_none (typing_faults (policy_of s)) (then_unfit ∙ h);
-              } in
-              rw (ek, em, ← E.count, ← E.down) (sym (passed_is s passed))
+      pub accepted : first ≡ None → (k m : ℕ) → k ≡ fields_of s → m ≡ tables_of s
+          → Ok (record { fields = k; tables = m; parts = z.parts; deep = z.deep }) ≡ verdict s
+      unfolding sizes_of
+      accepted e k m ek em =
+          let passed : Passed s = record {
+            readable = readable;
+            parts = limits.0;
+            deep = limits.1;
+            typed = marked_none (typing_faults (policy_of s)) (faults_are ∙ e);
+          } in
+          rw (ek, em, ← E.count, ← E.down) (sym (passed_is s passed))
 
 -- ---- the numbers 1 to 4
 
@@ -183,28 +167,3 @@ module _ (s : List ℕ) (t1 : Bool) (e1 : t1 ≡ (leb 2 (length s) && leb (lengt
       module _ (q3 : e ≡ length s) (t4 : Bool) (e4 : t4 ≡ masks_right s (suc (tables_of s)) 0) where
         pub test_4 : not t4 ≡ true → Err (no_place EntryMasks) ≡ verdict s
         test_4 q = sym (refused_masks s long few (next_table ∙ q3) (sym e4 ∙ not-true t4 q))
-
-        pub fronted : not t4 ≡ false → Bytes s → Fronted s
-        fronted q4 small = record {
-          bytes = small;
-          long = long;
-          fields = (few.0, few.1);
-          tables = few.2;
-          lengths = next_table ∙ q3;
-          masks = sym e4 ∙ not-false t4 q4;
-        }
-
--- ---- nothing noted yet
-
-zeros : (n x : ℕ) → ◌≡◌ {A = ℕ} (get_or (replicate n 0) x 0) 0
-zeros zero x = refl
-zeros (suc n) zero = refl
-zeros (suc n) (suc x) = zeros n x
-
-pub cleared : Cleared (replicate 2 0) (replicate 32 0)
-cleared = record {
-  two = refl;
-  room = refl;
-  unmarked = zeros 2;
-  unused = zeros 32;
-}

@@ -12,8 +12,10 @@ use Rattle.rules.specs.Parts.{Part, Id, Drop, Test, Set, Not, Sum, Seq, Beside, 
 use Rattle.rules.specs.Typing.{tested, written, wrongs}
 use Rattle.rules.specs.Books.{Scope, scope_of, Fine, use_of}
 use Rattle.rules.specs.Reading.{reads_at, writes_at, body_start, body_at, use_at}
-use Rattle.typing.specs.Walking.{shut, noted, note_use}
-use Rattle.typing.proofs.CountLaws.{filled, Shut, count_other, top_other, top_same, noted_room}
+use Rattle.typing.specs.declared.Use.{Use}
+use Rattle.typing.specs.Walking.{shut, noted, unused, note_use}
+use Rattle.typing.proofs.TallyLaws.{use_same, use_other, noted_room}
+use Rattle.typing.proofs.CountLaws.{filled, Shut}
 
 abbrev pub Like : Part → Part → Type 0
 Like q p = (tested q ≡ tested p) × (written q ≡ written p) × (size q ≡ size p) × ((at : ℕ) → wrongs at q ≡ wrongs at p)
@@ -72,7 +74,7 @@ fill_like s c (suc d) pred (Open x r w) f =
     (o.0 ∙ ap tested e, o.1 ∙ ap written e, o.2 ∙ ap size e, λ at. o.3 at ∙ ap (wrongs at) e)
 
 -- in a table's body nothing is used
-pub none_noted : (k m : ℕ) (n : ℕ → Part) (d : ℕ) (pred : Bool) (p : Part) (o : ℕ) (l : List ℕ) → Fine (scope_of k m false) n d pred p
+pub none_noted : (k m : ℕ) (n : ℕ → Part) (d : ℕ) (pred : Bool) (p : Part) (o : ℕ) (l : List Use) → Fine (scope_of k m false) n d pred p
     → noted p o l ≡ l
 unfolding Fine noted
 none_noted k m n zero pred p o l f = absurd f
@@ -84,45 +86,42 @@ none_noted k m n (suc d) pred (Not p) o l f = none_noted k m n d true p o l f
 none_noted k m n (suc d) pred (Sum p q) o l f = rw (none_noted k m n d pred p o l f.0) (none_noted k m n d pred q o l f.1)
 none_noted k m n (suc d) pred (Seq p q) o l f = rw (none_noted k m n d pred p o l f.0) (none_noted k m n d pred q o l f.1)
 none_noted k m n (suc d) pred (Beside wp wq p q) o l f =
-    rw (none_noted k m n d pred p (suc o) l f.3) (none_noted k m n d pred q (suc o) l f.4)
+    rw (none_noted k m n d pred p (o + 1) l f.3) (none_noted k m n d pred q (o + 1) l f.4)
 none_noted k m n (suc d) pred (Table x r w start p) o l f = absurd (false≢true f.1)
 none_noted k m n (suc d) pred (Open x r w) o l f = absurd (false≢true f.1)
 
 -- table 0 is never used
-pub zero_noted : (s : List ℕ) (c : Scope) (d : ℕ) (pred : Bool) (p : Part) (o : ℕ) (l : List ℕ) → length l ≡ 32 → Fine c (shut s) d pred p
-    → get_or (noted p o l) 0 0 ≡ get_or l 0 0
+pub zero_noted : (s : List ℕ) (c : Scope) (d : ℕ) (pred : Bool) (p : Part) (o : ℕ) (l : List Use) → Fine c (shut s) d pred p
+    → get_or (noted p o l) 0 unused ≡ get_or l 0 unused
 unfolding Fine noted
-zero_noted s c zero pred p o l k f = absurd f
-zero_noted s c (suc d) pred Id o l k f = refl
-zero_noted s c (suc d) pred Drop o l k f = refl
-zero_noted s c (suc d) pred (Test i v) o l k f = refl
-zero_noted s c (suc d) pred (Set i v) o l k f = refl
-zero_noted s c (suc d) pred (Not p) o l k f = zero_noted s c d true p o l k f
-zero_noted s c (suc d) pred (Sum p q) o l k f =
-    zero_noted s c d pred q o (noted p o l) (noted_room p o l ∙ k) f.1 ∙ zero_noted s c d pred p o l k f.0
-zero_noted s c (suc d) pred (Seq p q) o l k f =
-    zero_noted s c d pred q o (noted p o l) (noted_room p o l ∙ k) f.1 ∙ zero_noted s c d pred p o l k f.0
-zero_noted s c (suc d) pred (Beside wp wq p q) o l k f =
-    zero_noted s c d pred q (suc o) (noted p (suc o) l) (noted_room p (suc o) l ∙ k) f.4 ∙ zero_noted s c d pred p (suc o) l k f.3
-zero_noted s c (suc d) pred (Table x r w start p) o l k f = count_other (λ i. 0) l x o k 0 (omega arith) (λ z. omega (arith, f.2))
-zero_noted s c (suc d) pred (Open x r w) o l k f = count_other (λ i. 0) l x o k 0 (omega arith) (λ z. omega (arith, f.2))
+zero_noted s c zero pred p o l f = absurd f
+zero_noted s c (suc d) pred Id o l f = refl
+zero_noted s c (suc d) pred Drop o l f = refl
+zero_noted s c (suc d) pred (Test i v) o l f = refl
+zero_noted s c (suc d) pred (Set i v) o l f = refl
+zero_noted s c (suc d) pred (Not p) o l f = zero_noted s c d true p o l f
+zero_noted s c (suc d) pred (Sum p q) o l f = zero_noted s c d pred q o (noted p o l) f.1 ∙ zero_noted s c d pred p o l f.0
+zero_noted s c (suc d) pred (Seq p q) o l f = zero_noted s c d pred q o (noted p o l) f.1 ∙ zero_noted s c d pred p o l f.0
+zero_noted s c (suc d) pred (Beside wp wq p q) o l f =
+    zero_noted s c d pred q (o + 1) (noted p (o + 1) l) f.4 ∙ zero_noted s c d pred p (o + 1) l f.3
+zero_noted s c (suc d) pred (Table x r w start p) o l f = use_other l x o 0 (λ z. omega (arith, f.2))
+zero_noted s c (suc d) pred (Open x r w) o l f = use_other l x o 0 (λ z. omega (arith, f.2))
 
 -- no use is deeper than the body
 module _ (b n : ℕ) (h : n ≤ 16) where
-  abbrev Below : List ℕ → Type 0
-  Below l = (y : ℕ) → y < 16 → get_or l (16 + y) 0 ≤ b
+  abbrev Below : List Use → Type 0
+  Below l = (y : ℕ) → y < 16 → (get_or l y unused).level ≤ b
 
-  use_below : (x o : ℕ) (l : List ℕ) → length l ≡ 32 → x < n → o ≤ b → Below l → Below (note_use x o l)
+  use_below : (x o : ℕ) (l : List Use) → length l ≡ 16 → x < n → o ≤ b → Below l → Below (note_use x o l)
   use_below x o l k z w i y u = go (eqb y x) refl
     where
-      go : (t : Bool) → eqb y x ≡ t → get_or (note_use x o l) (16 + y) 0 ≤ b
+      go : (t : Bool) → eqb y x ≡ t → (get_or (note_use x o l) y unused).level ≤ b
       go true q =
           let e : y ≡ x = eqb-true y x q in
-          let s = top_same (λ j. 0) l x o k (omega arith) in
-          rw e (omega (arith, s, i x (omega arith)))
-      go false q = omega (arith, top_other (λ j. 0) l x o k (omega arith) y u (eqb-false y x q), i y u)
+          rw (e, use_same l x o (omega arith)) (omega (arith, i x (omega arith)))
+      go false q = rw (use_other l x o y (eqb-false y x q)) (i y u)
 
-  pub below_noted : (p : Part) (o : ℕ) (l : List ℕ) → length l ≡ 32 → Shut n p → o + deep p ≤ b → Below l → Below (noted p o l)
+  pub below_noted : (p : Part) (o : ℕ) (l : List Use) → length l ≡ 16 → Shut n p → o + deep p ≤ b → Below l → Below (noted p o l)
   unfolding noted deep
   below_noted Id o l k z w i = i
   below_noted Drop o l k z w i = i
@@ -134,7 +133,7 @@ module _ (b n : ℕ) (h : n ≤ 16) where
   below_noted (Seq p q) o l k z w i =
       below_noted q o (noted p o l) (noted_room p o l ∙ k) z.1 (omega arith) (below_noted p o l k z.0 (omega arith) i)
   below_noted (Beside wp wq p q) o l k z w i =
-      below_noted q (suc o) (noted p (suc o) l) (noted_room p (suc o) l ∙ k) z.1 (omega arith)
-      (below_noted p (suc o) l k z.0 (omega arith) i)
+      below_noted q (o + 1) (noted p (o + 1) l) (noted_room p (o + 1) l ∙ k) z.1 (omega arith)
+      (below_noted p (o + 1) l k z.0 (omega arith) i)
   below_noted (Table x r w start p) o l k z u i = absurd z
   below_noted (Open x r w) o l k z u i = use_below x o l k z (omega arith) i

@@ -1,18 +1,19 @@
 -- A body is walked in the front of the book that ends with it: what is read and decoded there is what the book says.
-use Rattle.std.specs.Prelude.{Ok}
-use Prim.Native.Nat.{ℕ, ◌+◌, ◌*◌, ◌/◌, ◌%◌, ◌<◌, ◌≤◌}
+use Prim.Native.Nat.{ℕ, ◌+◌, ◌*◌, ◌≤◌}
 use native.Mathlib.Omega.{arith}
 use mathlib.Core.Path.{◌≡◌, sym, ◌∙◌}
-use mathlib.Core.Bool.{Bool}
+use mathlib.Core.Bool.{Bool, false, not}
 use mathlib.Core.List.{List}
 use lib.ListN.{length, get_or, take, drop}
 use lib.Seq.{get_or-take, length-take-le}
-use borrow.Author.Tests.{ne_eqb}
+use Rattle.std.specs.Prelude.{Ok}
 use Rattle.rules.specs.Books.{Scope, scope_of, first_body, Fine, most_fields, most_tables, most_bytes, Bytes}
 use Rattle.rules.specs.Reading.{read_part, part_at, fields_of, tables_of, reads_at, writes_at}
 use Rattle.rules.proofs.Decoding.{bytes_take, unpopulated, Names, read, reads, read_front}
 use Rattle.rules.proofs.Whole.{fine_same}
-use Rattle.typing.specs.Walking.{shut, scope_at, in_main, Sound, BodyAsked}
+use Rattle.typing.specs.declared.Way.{Way}
+use Rattle.typing.specs.declared.Notes.{Notes}
+use Rattle.typing.specs.Walking.{shut, scope_at, unused, Sound, BodyAsked}
 
 module _ (s : List ℕ) (e : ℕ) (h : first_body (tables_of s) ≤ e) where
   pub front_fields : fields_of (take e s) ≡ fields_of s
@@ -21,8 +22,8 @@ module _ (s : List ℕ) (e : ℕ) (h : first_body (tables_of s) ≤ e) where
   pub front_tables : tables_of (take e s) ≡ tables_of s
   front_tables = get_or-take e s 1 0 (omega arith)
 
-  pub front_scope : (way : ℕ) → scope_at (take e s) way ≡ scope_of (fields_of s) (tables_of s) (in_main way)
-  front_scope way = rw (front_fields, front_tables)
+  pub front_scope : (w : Way) → scope_at (take e s) w ≡ scope_of (fields_of s) (tables_of s) (not w.in_table)
+  front_scope w = rw (front_fields, front_tables)
 
   pub front_shut : (x : ℕ) → x ≤ tables_of s → shut (take e s) x ≡ shut s x
   unfolding shut
@@ -58,27 +59,23 @@ module _ (s : List ℕ) (e : ℕ) (h : first_body (tables_of s) ≤ e) where
         size = omega (arith, len);
       }
 
-  -- the first body begins with nothing noted
-  pub front_asked : (u : List ℕ) (start : ℕ) → Bytes s → fields_of s ≤ most_fields → tables_of s ≤ most_tables → e ≤ length s
-      → length s ≤ most_bytes → 6 ≤ start → start ≤ e → length u ≡ 32 → ((x : ℕ) → get_or u x 0 ≤ start + 32)
-      → (m : List ℕ) (way : ℕ) → length m ≡ 2 → way < 2 → BodyAsked (take e s) m u start way
-  front_asked u start small k t le few lo hi room noted m way two w =
+  -- a body begins below no concurrent part
+  pub front_asked : (n : Notes) (start : ℕ) (w : Way) → Bytes s → fields_of s ≤ most_fields → tables_of s ≤ most_tables → e ≤ length s
+      → length s ≤ most_bytes → start ≤ e → length n.uses ≡ 16 → ((x : ℕ) → (get_or n.uses x unused).count ≤ start)
+      → w.level ≡ 0 → w.predicate ≡ false → BodyAsked (take e s) n start w
+  front_asked n start w small k t le few hi room noted flat free =
       let len : length (take e s) ≡ e = length-take-le e s le in
-      let p : start % 65536 ≡ start = omega arith in
       record {
         asked = record {
           sound = front_sound small k t le few;
-          two = two;
           kept = record {
-            start = omega (arith, p);
-            within = omega (arith, p, len);
+            within = omega (arith, len);
             parts = omega arith;
-            few = λ x. omega (arith, p, noted x);
+            few = noted;
             room = room;
             deep = omega arith;
           };
           level = omega arith;
         };
-        front = omega (arith, len);
-        free = ne_eqb (way / 2 % 2) 1 (λ z. omega arith);
+        free = free;
       }

@@ -1,6 +1,7 @@
--- Answers taken apart, and a part with no parts below it.
-use Rattle.std.specs.Prelude.{Err, Ok, Result, ℕ}
-use Prim.Native.Nat.{ℕ, zero, suc, ◌+◌, ◌*◌, ◌/◌, ◌%◌, ◌<◌, ◌≤◌}
+-- A part with no parts below it.
+use Prim.Native.Nat.{ℕ, zero, suc, ◌+◌, ◌*◌, ◌%◌, ◌^◌, ◌<◌, ◌≤◌}
+use native.Mathlib.Nat.{one-mul, mod-eq_of_lt}
+use lib.Pow.{pow-lt}
 use native.Mathlib.Omega.{arith}
 use mathlib.Core.Path.{◌≡◌, refl, sym, ap, ◌∙◌}
 use mathlib.Core.Bool.{Bool, true, false, not, cond, ◌&&◌}
@@ -9,92 +10,79 @@ use mathlib.Core.List.{List}
 use lib.Bits.{bit_or, or_zero_r}
 use lib.Dec.{eqb}
 use lib.ListN.{length, get_or}
-use borrow.Author.Tests.{eq-eqb, ne_eqb, eqb-true, eqb-false, not-false}
+use borrow.Author.Tests.{eqb-true, eqb-false, not-false}
+use Rattle.std.specs.Prelude.{Result, Ok, Err}
 use Rattle.rules.specs.declared.Head.{Head}
-use Rattle.rules.specs.declared.Shape.{Shape}
-use Rattle.rules.specs.Codes.{shape_at, operands_of, parts_of}
+use Rattle.rules.specs.Codes.{operands_of, parts_of}
 use Rattle.rules.specs.Masks.{field}
 use Rattle.rules.specs.Parts.{Part, Id, write, size, parts}
 use Rattle.rules.specs.Typing.{tested, written}
-use Rattle.rules.specs.Books.{most_bytes, most_tables, Scope}
+use Rattle.rules.specs.Books.{Scope}
 use Rattle.rules.specs.Reading.{read_operands, stands, read_part, head, head_at, part_at, built, fields_of, tables_of, reads_at, writes_at}
-use Rattle.book.specs.Operands.{Within}
 use Rattle.rules.proofs.ReadingLaws.{head_is, operands_none, operands_were, use_known, part_wrong, byte_next, byte_wrong, then_next}
-use Rattle.rules.proofs.ReadingLaws.{stands_37, stands_8}
+use Rattle.rules.proofs.ReadingLaws.{stands_37, stands_8, stands_known}
 use Rattle.rules.proofs.CodeLaws.{by_code}
-use Rattle.typing.proofs.TallyLaws.{use_few, use_room}
-use Rattle.typing.specs.declared.Walked.{Walked}
-use Rattle.typing.specs.declared.Walked.TheVariants.{Off}
-use Rattle.typing.specs.Walking.{place_in, tests_in, writes_in, Moved, Masked, Small, wired, WrongWithin, refused_at}
-use Rattle.typing.specs.Walking.{LeafAsked, Leafed, Noted, noted, note_use, shut, scope_at, pred_of, in_main}
-use Rattle.typing.specs.Walking.{open_of, leaf_at, leaf_read}
-
-pub off_small : (w : Walked) (a : ℕ) → w ≡ Off a → Small w → a ≤ most_bytes
-off_small w a e h = rw e at h
-
-pub off_wired : (w : Walked) (a n : ℕ) → w ≡ Off a → n ≡ a * 65536 → n ≡ wired w
-off_wired w a n e h = h ∙ rw e
-
-pub wrong_small : (r : Result ℕ ℕ) (a : ℕ) → r ≡ Err a → WrongWithin r → a ≤ most_bytes
-wrong_small r a e h = rw e at h
-
-pub wrong_refused : (r : Result ℕ ℕ) (a n : ℕ) → r ≡ Err a → n ≡ a * 65536 → n ≡ refused_at r
-wrong_refused r a n e h = h ∙ rw e
-
--- a refusal by the operands
-pub wrong_within : (s : List ℕ) (a : ℕ) (r : Result ℕ ℕ) → length s ≤ most_bytes → r ≡ Err a → Within (length s) r → WrongWithin r
-unfolding Within
-wrong_within s a r h e w =
-    let v : a ≤ length s = rw e at w in
-    rw e (omega (arith, v))
-
-pub leafed_wrong : (s : List ℕ) (st a n : ℕ) (p : Part) (r ro : Result ℕ ℕ) → r ≡ ro → r ≡ Err a → Within (length s) r → n ≡ refused_at r
-    → Leafed s st p ro n
-unfolding Within
-leafed_wrong s st a n p r ro q e w z =
-    let v : a ≤ length s = rw e at w in
-    rw (← q, e) (z ∙ rw e, v)
-
--- what the masks and the place of a part with no parts below it come to, once its operands are read
-pub leafed_next : (s : List ℕ) (st y z t w code e : ℕ) (p : Part) (r : Result ℕ ℕ)
-    → r ≡ read_operands s (fields_of s) (tables_of s) code (place_in st) → r ≡ Ok e → Masked st t w y → Moved y (operands_of code) z
-    → size p ≡ 1 + operands_of code → parts p ≡ 1 → tested p ≡ t → written p ≡ w
-    → Leafed s st p (read_operands s (fields_of s) (tables_of s) code (place_in st)) z
-leafed_next s st y z t w code e p r q re m v hs hp ht hw =
-    let k = operands_were s (fields_of s) (tables_of s) code (place_in st) e (sym q ∙ re) in
-    rw (← q, re) (
-      omega (arith, m.place, v.place),
-      omega (arith, m.parts, v.parts),
-      v.masks.0 ∙ m.tests ∙ rw ht,
-      v.masks.1 ∙ m.writes ∙ rw hw,
-      omega (arith, k.1),
-    )
+use Rattle.typing.specs.declared.State.{State}
+use Rattle.typing.specs.declared.Way.{Way}
+use Rattle.typing.specs.declared.Use.{Use}
+use Rattle.typing.specs.declared.Notes.{Notes}
+use Rattle.typing.specs.Walking.{moved, masked, unused, noted, note_use, noting, shut, scope_at, leaf_at, leaf_read, if_read}
+use Rattle.typing.specs.Walking.{LeafAsked, leafed, Noted}
 
 -- the head that the code reads where a byte stands
 pub shown : (s : List ℕ) (at : ℕ) (h : Head) → at < length s → h ≡ head_at s at → h ≡ head s at
 shown s at h l e = e ∙ head_is s at l
 
--- masks that were read are those of the entry
-pub masked_by : (s : List ℕ) (x st r w y : ℕ) → r ≡ reads_at s x → w ≡ writes_at s x → Masked st (bit_or r w) w y
-    → Masked st (bit_or (reads_at s x) (writes_at s x)) (writes_at s x) y
-masked_by s x st r w y er ew m = rw (← er, ← ew) m
+-- a refusal by the operands
+pub leafed_wrong : (st : State) (p : Part) (r ro : Result ℕ ℕ) (a : ℕ) → r ≡ ro → r ≡ Err a → Err a ≡ leafed st p ro
+leafed_wrong st p r ro a q e = rw (← q, e)
+
+pub if_not : (x a : ℕ) (r ro : Result ℕ ℕ) → r ≡ ro → r ≡ Err a → Err a ≡ if_read x ro
+if_not x a r ro q e = rw (← q, e)
+
+pub if_so : (x y e : ℕ) (r ro : Result ℕ ℕ) → r ≡ ro → r ≡ Ok e → y ≡ x → Ok y ≡ if_read x ro
+if_so x y e r ro q n h = rw (← q, n, h)
+
+-- the mask of one field, as the code shifts it
+pub bit_is : (k : ℕ) → k < 8 → 1 * 2 ^ k % 256 ≡ field k
+bit_is k h = rw one-mul (mod-eq_of_lt (pow-lt h))
+
+read_was : (x b : ℕ) (ro : Result ℕ ℕ) → Ok b ≡ if_read x ro → (e : ℕ) × (ro ≡ Ok e) × (b ≡ x)
+read_was x b (Ok e) q = (e, refl, cc)
+read_was x b (Err a) q = absurd cc
+
+read_not : (x a : ℕ) (ro : Result ℕ ℕ) → Err a ≡ if_read x ro → ro ≡ Err a
+read_not x a (Ok e) q = absurd cc
+read_not x a (Err b) q = cc
+
+-- what the masks and the place of a part come to, once its operands are read
+module _ (s : List ℕ) (st : State) (code e : ℕ) (r : Result ℕ ℕ) (q : r ≡ read_operands s (fields_of s) (tables_of s) code st.at)
+    (re : r ≡ Ok e) where
+  pub ends_within : st.at + 1 + operands_of code ≤ length s
+  ends_within = (operands_were s (fields_of s) (tables_of s) code st.at e (sym q ∙ re)).1
+
+  pub leafed_next : (p : Part) (t w : ℕ) → size p ≡ 1 + operands_of code → parts p ≡ 1 → t ≡ tested p → w ≡ written p
+      → Ok (moved (operands_of code) (masked t w st)) ≡ leafed st p (read_operands s (fields_of s) (tables_of s) code st.at)
+  leafed_next p t w hs hp ht hw =
+      let a : st.at + size p ≡ st.at + 1 + operands_of code = omega (arith, hs) in
+      rw (← q, re, a, hp, ht, hw)
 
 -- each code's own part
 pub field_is : (h : Head) (named : ℕ → Part) (code : ℕ) → 2 ≤ code → code < 4 → let p = built h named code Id Id in
     (size p ≡ 1 + operands_of code) × (parts p ≡ 1) × (tested p ≡ cond (eqb code 2) (field h.field) 0)
-    × (written p ≡ cond (eqb code 3) (field h.field) 0) × ((o : ℕ) (l : List ℕ) → noted p o l ≡ l)
+    × (written p ≡ cond (eqb code 3) (field h.field) 0) × ((o : ℕ) (l : List Use) → noted p o l ≡ l)
 unfolding built write parts tested written noted
 field_is h named =
     by_code (λ code. 2 ≤ code → code < 4 → let p = built h named code Id Id in
     (size p ≡ 1 + operands_of code) × (parts p ≡ 1) × (tested p ≡ cond (eqb code 2) (field h.field) 0)
-    × (written p ≡ cond (eqb code 3) (field h.field) 0) × ((o : ℕ) (l : List ℕ) → noted p o l ≡ l))
+    × (written p ≡ cond (eqb code 3) (field h.field) 0) × ((o : ℕ) (l : List Use) → noted p o l ≡ l))
     (λ a b. absurd (omega arith)) (λ a b. absurd (omega arith)) (λ a b. (refl, refl, refl, refl, λ o l. refl))
     (λ a b. (refl, refl, refl, refl, λ o l. refl)) (λ a b. absurd (omega arith)) (λ a b. absurd (omega arith)) (λ a b. absurd (omega arith))
     (λ a b. absurd (omega arith)) (λ a b. absurd (omega arith)) (λ c a b. absurd (omega arith))
 
 pub use_is : (s : List ℕ) (at : ℕ) → let p = built (head s at) (shut s) 8 Id Id in let x = (head s at).table in
     (size p ≡ 1 + operands_of 8) × (parts p ≡ 1) × (tested p ≡ bit_or (reads_at s x) (writes_at s x)) × (written p ≡ writes_at s x)
-    × ((o : ℕ) (l : List ℕ) → noted p o l ≡ note_use x o l)
+    × ((o : ℕ) (l : List Use) → noted p o l ≡ note_use x o l)
 unfolding built write parts tested written shut noted
 use_is s at = (refl, refl, refl, refl, λ o l. refl)
 
@@ -115,113 +103,102 @@ leaf_part : (s : List ℕ) (at code : ℕ) → get_or s at 0 ≡ code → leaf_a
 unfolding part_at
 leaf_part s at code e = rw e
 
-module _ (s : List ℕ) (st way code r : ℕ) (u v : List ℕ) (e : get_or s (place_in st) 0 ≡ code) (h : place_in st < length s) where
-  pub leaf_on : stands (in_main way) (pred_of way) code ≡ true → parts_of code ≡ 0
-      → let p = built (head s (place_in st)) (shut s) code Id Id in
-      let ro = read_operands s (fields_of s) (tables_of s) code (place_in st) in
-      Leafed s st p ro r × Noted (open_of way) p ro u v
-      → Leafed s st (leaf_at s (place_in st)) (leaf_read s way (place_in st)) r
-      × Noted (open_of way) (leaf_at s (place_in st)) (leaf_read s way (place_in st)) u v
-  leaf_on ok z w =
-      rw (leaf_part s (place_in st) code e, leaf_read_lem s (scope_at s way) 0 (pred_of way) (place_in st) code e h ok z) w
+module _ (s : List ℕ) (st : State) (w : Way) (code : ℕ) (e : get_or s st.at 0 ≡ code) (h : st.at < length s) where
+  pub leaf_off : stands (not w.in_table) w.predicate code ≡ false → Err st.at ≡ leafed st (leaf_at s st.at) (leaf_read s w st.at)
+  leaf_off not-here = rw (leaf_stop s (scope_at s w) 1 w.predicate st.at h (rw e not-here))
 
-  pub leaf_off : stands (in_main way) (pred_of way) code ≡ false → r ≡ place_in st * 65536
-      → Leafed s st (leaf_at s (place_in st)) (leaf_read s way (place_in st)) r
-      × Noted (open_of way) (leaf_at s (place_in st)) (leaf_read s way (place_in st)) u v
-  leaf_off not-here z = rw (leaf_stop s (scope_at s way) 1 (pred_of way) (place_in st) h (rw e not-here)) ((z, omega arith), tt)
+  pub leaf_on : (r : Result State ℕ) → stands (not w.in_table) w.predicate code ≡ true → parts_of code ≡ 0
+      → r ≡ leafed st (built (head s st.at) (shut s) code Id Id) (read_operands s (fields_of s) (tables_of s) code st.at)
+      → r ≡ leafed st (leaf_at s st.at) (leaf_read s w st.at)
+  leaf_on r ok z g = rw (leaf_part s st.at code e, leaf_read_lem s (scope_at s w) 0 w.predicate st.at code e h ok z) g
 
--- a test and a set note no use
-field_noted : (s : List ℕ) (at o code : ℕ) (u : List ℕ) (ro : Result ℕ ℕ) → 2 ≤ code → code < 4
-    → Noted o (built (head s at) (shut s) code Id Id) ro u u
-field_noted s at o code u (Ok e) h l = (sym ((field_is (head s at) (shut s) code h l).4 o u), refl, λ n y a b h. omega (arith, h y))
-field_noted s at o code u (Err a) h l = tt
+  pub leaf_noted : (r : Result State ℕ) (n v : Notes) → Noted w.level (built (head s st.at) (shut s) code Id Id) r n v → Noted w.level (leaf_at s st.at) r n v
+  leaf_noted r n v g = rw (leaf_part s st.at code e) g
 
-pub field_on : (s : List ℕ) (st way code r : ℕ) (u : List ℕ) → 2 ≤ code → code < 4
-    → let p = built (head s (place_in st)) (shut s) code Id Id in
-    let ro = read_operands s (fields_of s) (tables_of s) code (place_in st) in
-    Leafed s st p ro r → Leafed s st p ro r × Noted (open_of way) p ro u u
-field_on s st way code r u lo up w =
-    (w, field_noted s (place_in st) (open_of way) code u (read_operands s (fields_of s) (tables_of s) code (place_in st)) lo up)
+-- a test or a set, by the mask of its field
+module _ (s : List ℕ) (st : State) (code : ℕ) (lo : 2 ≤ code) (up : code < 4) (r : Result ℕ ℕ)
+    (er : r ≡ if_read (field (head s st.at).field) (read_operands s (fields_of s) (tables_of s) code st.at)) where
+  pub field_off : (a : ℕ) → r ≡ Err a
+      → Err a ≡ leafed st (built (head s st.at) (shut s) code Id Id) (read_operands s (fields_of s) (tables_of s) code st.at)
+  field_off a q = rw (read_not (field (head s st.at).field) a (read_operands s (fields_of s) (tables_of s) code st.at) (sym q ∙ er))
 
-pub use_noted : (s : List ℕ) (at o e : ℕ) (u v : List ℕ) (r ro : Result ℕ ℕ) → r ≡ ro → r ≡ Ok e → v ≡ note_use (head s at).table o u
-    → (head s at).table < 16 → Noted o (built (head s at) (shut s) 8 Id Id) ro u v
-use_noted s at o e u v r ro q re h l =
-    rw (← q, re) (
-      h ∙ sym ((use_is s at).4 o u),
-      ap length h ∙ use_room u (head s at).table o,
-      λ n y a b f. rw h (use_few u (head s at).table o n y b l a f),
-    )
+  module _ (b : ℕ) (q : r ≡ Ok b) where
+    was : (e : ℕ) × (read_operands s (fields_of s) (tables_of s) code st.at ≡ Ok e) × (b ≡ field (head s st.at).field)
+    was = read_was (field (head s st.at).field) b (read_operands s (fields_of s) (tables_of s) code st.at) (sym q ∙ er)
 
--- a test or a set, once its operands are read: b is its field's mask, in T or in M
-pub field_left : (s : List ℕ) (st y z e b t w code : ℕ) (h : Head) {r : Result ℕ ℕ} → 2 ≤ code → code < 4 → h ≡ head s (place_in st)
-    → r ≡ read_operands s (fields_of s) (tables_of s) code (place_in st) → r ≡ Ok e → b ≡ field h.field
-    → t ≡ cond (eqb code 2) b 0 → w ≡ cond (eqb code 3) b 0 → Masked st t w y → Moved y (operands_of code) z
-    → Leafed s st (built (head s (place_in st)) (shut s) code Id Id) (read_operands s (fields_of s) (tables_of s) code (place_in st)) z
-field_left s st y z e b t w code h {r} lo up eh q re eb et ew m v =
-    let i = field_is (head s (place_in st)) (shut s) code lo up in
-    let bit : b ≡ field (head s (place_in st)).field = eb ∙ ap (λ (h : Head). field h.field) eh in
-    leafed_next s st y z t w code e _ r q re m v i.0 i.1
-    (i.2 ∙ ap (λ (x : ℕ). cond (eqb code 2) x 0) (sym bit) ∙ sym et) (i.3 ∙ ap (λ (x : ℕ). cond (eqb code 3) x 0) (sym bit) ∙ sym ew)
+    pub field_within : st.at + 1 + operands_of code ≤ length s
+    field_within = ends_within s st code was.0 (read_operands s (fields_of s) (tables_of s) code st.at) refl was.1
 
--- a use of a table may be noted
-pub note_asked : (s u : List ℕ) (st e : ℕ) {way : ℕ} {h : Head} {r : Result ℕ ℕ} → h ≡ head s (place_in st)
-    → r ≡ read_operands s (fields_of s) (tables_of s) 8 (place_in st) → r ≡ Ok e → LeafAsked s u st way
-    → (length u ≡ 32) × (h.table < 16) × (get_or u h.table 0 < 65535)
-note_asked s u st e {h = h} eh q re a =
-    let k = use_known s (fields_of s) (tables_of s) (place_in st) e (sym q ∙ re) in
-    let x : h.table ≡ (head s (place_in st)).table = ap (λ (h : Head). h.table) eh in
-    (a.room, omega (arith, x, k.1, a.sound.tables), omega (arith, a.few h.table, a.sound.size, a.inside))
+    pub field_on : (t w : ℕ) → t ≡ cond (eqb code 2) b 0 → w ≡ cond (eqb code 3) b 0
+        → Ok (moved (operands_of code) (masked t w st))
+        ≡ leafed st (built (head s st.at) (shut s) code Id Id) (read_operands s (fields_of s) (tables_of s) code st.at)
+    field_on t w et ew =
+        let i = field_is (head s st.at) (shut s) code lo up in
+        leafed_next s st code was.0 (read_operands s (fields_of s) (tables_of s) code st.at) refl was.1
+        (built (head s st.at) (shut s) code Id Id) t w i.0 i.1
+        (et ∙ ap (λ (x : ℕ). cond (eqb code 2) x 0) was.2 ∙ sym i.2) (ew ∙ ap (λ (x : ℕ). cond (eqb code 3) x 0) was.2 ∙ sym i.3)
 
--- a use of a table, once its operand is read
-pub use_left : (s : List ℕ) (st y z o level e : ℕ) (u v : List ℕ) (h : Head) {r : Result ℕ ℕ} → h ≡ head s (place_in st)
-    → r ≡ read_operands s (fields_of s) (tables_of s) 8 (place_in st) → r ≡ Ok e → tables_of s ≤ most_tables → level ≡ o
-    → v ≡ note_use h.table level u
-    → Masked st (bit_or (reads_at s h.table) (writes_at s h.table)) (writes_at s h.table) y → Moved y (operands_of 8) z
-    → let p = built (head s (place_in st)) (shut s) 8 Id Id in
-    let ro = read_operands s (fields_of s) (tables_of s) 8 (place_in st) in
-    Leafed s st p ro z × Noted o p ro u v
-use_left s st y z o level e u v h {r} eh q re few el ev m w =
-    let i = use_is s (place_in st) in
-    let k = use_known s (fields_of s) (tables_of s) (place_in st) e (sym q ∙ re) in (
-      leafed_next s st y z _ _ 8 e _ r q re (rw eh at m) w i.0 i.1 i.2 i.3,
-      use_noted s (place_in st) o e u v r _ q re (ev ∙ rw (eh, el)) (omega (arith, k.1)),
-    )
+-- a use of a table
+module _ (s : List ℕ) (n : Notes) (st : State) (way : Way) (a : LeafAsked s n st way) (e : ℕ) (r : Result ℕ ℕ)
+    (q : r ≡ read_operands s (fields_of s) (tables_of s) 8 st.at) (re : r ≡ Ok e) (h : Head) (eh : h ≡ head s st.at) where
+  pub use_asked : (length n.uses ≡ 16) × (h.table < 16) × ((get_or n.uses h.table unused).count ≤ 4096)
+  use_asked =
+      let k = use_known s (fields_of s) (tables_of s) st.at e (sym q ∙ re) in
+      let x : h.table ≡ (head s st.at).table = ap (λ (h : Head). h.table) eh in
+      (a.kept.room, omega (arith, x, k.1, a.sound.tables), omega (arith, a.kept.few h.table, a.sound.size, a.inside))
 
-pub wrong_noted : (s : List ℕ) (o a : ℕ) (p : Part) (u v : List ℕ) (r ro : Result ℕ ℕ) → r ≡ ro → r ≡ Err a → Noted o p ro u v
-wrong_noted s o a p u v r ro q re = rw (← q, re) tt
+  pub use_left : (t w : ℕ) → t ≡ bit_or (reads_at s h.table) (writes_at s h.table) → w ≡ writes_at s h.table
+      → Ok (moved 1 (masked t w st)) ≡ leafed st (built (head s st.at) (shut s) 8 Id Id) (read_operands s (fields_of s) (tables_of s) 8 st.at)
+  use_left t w et ew =
+      let i = use_is s st.at in
+      leafed_next s st 8 e r q re (built (head s st.at) (shut s) 8 Id Id) t w i.0 i.1
+      (et ∙ ap (λ (h : Head). bit_or (reads_at s h.table) (writes_at s h.table)) eh ∙ sym i.2)
+      (ew ∙ ap (λ (h : Head). writes_at s h.table) eh ∙ sym i.3)
+
+  pub use_noted : (v : Notes) → v ≡ noting n (note_use h.table way.level n.uses)
+      → v ≡ noting n (noted (built (head s st.at) (shut s) 8 Id Id) way.level n.uses)
+  use_noted v ev = ev ∙ ap (noting n) (ap (λ (h : Head). note_use h.table way.level n.uses) eh ∙ sym ((use_is s st.at).4 way.level n.uses))
+
+-- a part that notes nothing
+pub quiet_noted : (o : ℕ) (p : Part) (r : Result State ℕ) (n : Notes) → ((l : List Use) → noted p o l ≡ l) → Noted o p r n n
+quiet_noted o p (Ok st) n q = rw (q n.uses)
+quiet_noted o p (Err a) n q = tt
 
 -- id and drop
 plain_is : (s : List ℕ) (at code : ℕ) → code < 2 → (operands_of code ≡ 0) × (let p = built (head s at) (shut s) code Id Id in
     (size p ≡ 1) × (parts p ≡ 1) × (tested p ≡ 0) × (written p ≡ 0))
-    × ((o : ℕ) (l : List ℕ) → noted (built (head s at) (shut s) code Id Id) o l ≡ l)
+    × ((o : ℕ) (l : List Use) → noted (built (head s at) (shut s) code Id Id) o l ≡ l)
 unfolding built write parts tested written noted
 plain_is s at zero h = (refl, (refl, refl, refl, refl), λ o l. refl)
 plain_is s at (suc zero) h = (refl, (refl, refl, refl, refl), λ o l. refl)
 plain_is s at (suc (suc c)) h = absurd (omega arith)
 
-pub plain_leaf : (s : List ℕ) (st way code r : ℕ) (u : List ℕ) → code < 2 → get_or s (place_in st) 0 ≡ code → place_in st < length s
-    → Moved st 0 r
-    → let p = built (head s (place_in st)) (shut s) code Id Id in
-    let ro = read_operands s (fields_of s) (tables_of s) code (place_in st) in
-    Leafed s st p ro r × Noted (open_of way) p ro u u
-plain_leaf s st way code r u l e h m =
-    let i = plain_is s (place_in st) code l in
-    let ro = operands_none s (fields_of s) (tables_of s) code (place_in st) i.0 h in
-    rw (ro, i.1.0, i.1.1, i.1.2, i.1.3) (
-      (
-        omega (arith, m.place),
-        omega (arith, m.parts),
-        m.masks.0 ∙ sym (or_zero_r (tests_in st)),
-        m.masks.1 ∙ sym (or_zero_r (writes_in st)),
-        omega arith,
-      ),
-      (sym (i.2 (open_of way) u), refl, λ n y a b h. omega (arith, h y)),
-    )
-
-pub low_parts_none : (c : ℕ) → c < 2 → parts_of c ≡ 0
+low_parts_none : (c : ℕ) → c < 2 → parts_of c ≡ 0
 low_parts_none zero h = refl
 low_parts_none (suc zero) h = refl
 low_parts_none (suc (suc c)) h = absurd (omega arith)
+
+-- id and drop stand where they are read
+pub plain_left : (s : List ℕ) (st : State) (w : Way) (code : ℕ) → code < 2 → get_or s st.at 0 ≡ code → st.at < length s
+    → Ok (moved 0 st) ≡ leafed st (leaf_at s st.at) (leaf_read s w st.at)
+plain_left s st w code l e h =
+    let i = plain_is s st.at code l in
+    let ro = operands_none s (fields_of s) (tables_of s) code st.at i.0 h in
+    let t : bit_or st.tests 0 ≡ st.tests = or_zero_r st.tests in
+    let m : bit_or st.writes 0 ≡ st.writes = or_zero_r st.writes in
+    leaf_on s st w code e h (Ok (moved 0 st))
+    (stands_known (not w.in_table) w.predicate code (omega arith) (λ q. omega arith)) (low_parts_none code l)
+    (rw (ro, i.1.0, i.1.1, i.1.2, i.1.3, t, m) (let z : st.at + 1 + 0 ≡ st.at + 1 = omega arith in rw z))
+
+pub plain_noted : (s : List ℕ) (st : State) (o code : ℕ) (r : Result State ℕ) (n : Notes) → code < 2 → get_or s st.at 0 ≡ code
+    → Noted o (leaf_at s st.at) r n n
+plain_noted s st o code r n l e = rw (leaf_part s st.at code e) (quiet_noted o (built (head s st.at) (shut s) code Id Id) r n ((plain_is s st.at code l).2 o))
+
+pub field_noted : (s : List ℕ) (st : State) (o code : ℕ) (r : Result State ℕ) (n : Notes) → 2 ≤ code → code < 4 → get_or s st.at 0 ≡ code
+    → Noted o (leaf_at s st.at) r n n
+field_noted s st o code r n a b e =
+    rw (leaf_part s st.at code e)
+    (quiet_noted o (built (head s st.at) (shut s) code Id Id) r n ((field_is (head s st.at) (shut s) code a b).4 o))
 
 pub unknown_code : (c : ℕ) → parts_of c ≡ 0 → 2 ≤ c → (c ≡ 2 → ⊥) → (c ≡ 3 → ⊥) → (c ≡ 8 → ⊥) → 9 ≤ c
 unknown_code =
@@ -231,30 +208,24 @@ unknown_code =
     (λ z l a b d. absurd (d refl)) (λ c z l a b d. omega arith)
 
 -- which codes stand, by what the walk compares
-pub three_stops : (way code : ℕ) → code ≡ 3 → way / 2 % 2 ≡ 1 → stands (in_main way) (pred_of way) code ≡ false
-three_stops way code e h = stands_37 (in_main way) (pred_of way) code (inl e) ∙ rw (eq-eqb (way / 2 % 2) 1 h)
+pub set_stops : (t p : Bool) → p ≡ true → stands t p 3 ≡ false
+set_stops t p h = stands_37 t p 3 (inl refl) ∙ rw h
 
-pub three_stands : (way code : ℕ) → code ≡ 3 → (way / 2 % 2 ≡ 1 → ⊥) → stands (in_main way) (pred_of way) code ≡ true
-three_stands way code e h = stands_37 (in_main way) (pred_of way) code (inl e) ∙ rw (ne_eqb (way / 2 % 2) 1 h)
+pub set_stands : (t p : Bool) → p ≡ false → stands t p 3 ≡ true
+set_stands t p h = stands_37 t p 3 (inl refl) ∙ rw h
 
-pub eight_stands : (way code : ℕ) → code ≡ 8 → way % 4 ≡ 0 → stands (in_main way) (pred_of way) code ≡ true
-eight_stands way code e h =
-    let a : way / 2 % 2 ≡ 1 → ⊥ = λ q. omega arith in
-    let b : way % 2 ≡ 0 = omega arith in
-    stands_8 (in_main way) (pred_of way) code e ∙ rw (ne_eqb (way / 2 % 2) 1 a, eq-eqb (way % 2) 0 b)
+pub beside_stops : (t p : Bool) → p ≡ true → stands t p 7 ≡ false
+beside_stops t p h = stands_37 t p 7 (inr refl) ∙ rw h
 
-pub eight_stops : (way code : ℕ) → code ≡ 8 → (way % 4 ≡ 0 → ⊥) → stands (in_main way) (pred_of way) code ≡ false
-eight_stops way code e h = stands_8 (in_main way) (pred_of way) code e ∙ go (eqb (way / 2 % 2) 1) refl
+pub table_stands : (t p : Bool) → p ≡ false → t ≡ false → stands (not t) p 8 ≡ true
+table_stands t p h k = stands_8 (not t) p 8 refl ∙ rw (h, k)
+
+pub table_stops : (t p : Bool) → (p ≡ true) ⊎ (t ≡ true) → stands (not t) p 8 ≡ false
+table_stops t p = ⊎_elim (λ h. stands_8 (not t) p 8 refl ∙ rw h) (λ h. stands_8 (not t) p 8 refl ∙ rw h (no_main p))
   where
-    go : (t : Bool) → eqb (way / 2 % 2) 1 ≡ t → (not t && in_main way) ≡ false
-    go true q = refl
-    go false q = ne_eqb (way % 2) 0 (λ z. h (omega (arith, eqb-false (way / 2 % 2) 1 q)))
-
-pub seven_stops : (way code : ℕ) → code ≡ 7 → way / 2 % 2 ≡ 1 → stands (in_main way) (pred_of way) code ≡ false
-seven_stops way code e h = stands_37 (in_main way) (pred_of way) code (inr e) ∙ rw (eq-eqb (way / 2 % 2) 1 h)
-
-pub seven_free : (way : ℕ) → (way / 2 % 2 ≡ 1 → ⊥) → pred_of way ≡ false
-seven_free way h = ne_eqb (way / 2 % 2) 1 h
+    no_main : (p : Bool) → (not p && false) ≡ false
+    no_main true = refl
+    no_main false = refl
 
 pub five_six : (c : ℕ) → 5 ≤ c → c < 7 → (c ≡ 5) ⊎ (c ≡ 6)
 five_six c h l = go (eqb c 5) refl
@@ -262,10 +233,6 @@ five_six c h l = go (eqb c 5) refl
     go : (t : Bool) → eqb c 5 ≡ t → (c ≡ 5) ⊎ (c ≡ 6)
     go true q = inl (eqb-true c 5 q)
     go false q = inr (omega (arith, eqb-false c 5 q))
-
--- whether parts stand below a code, by its row
-pub parts_told : (code : ℕ) (x : Shape) → x ≡ shape_at code → (t : Bool) → t ≡ not (eqb x.parts 0) → t ≡ not (eqb (parts_of code) 0)
-parts_told code x e t h = rw e at h
 
 pub no_parts : (n : ℕ) (t : Bool) → t ≡ not (eqb n 0) → t ≡ false → n ≡ 0
 no_parts n t e q = eqb-true n 0 (not-false (eqb n 0) (sym e ∙ q))

@@ -1,7 +1,5 @@
 -- What is shown for the proofs of the code.
-pub mod MaskTests
 pub mod EntryLaws
-pub mod PackLaws
 pub mod LeafLaws
 pub mod TallyLaws
 pub mod WalkLaws

@@ -1,50 +1,25 @@
--- The sums over the bodies: the small steps, the faults from entry y on, and what one walk tells of a body.
-use Prim.Native.Nat.{ℕ, zero, suc, max, ◌+◌, ◌*◌, ◌-◌, ◌<◌, ◌≤◌}
+-- The sums over the bodies: where they start, the faults from entry y on, and what one walk tells of a body.
+use Prim.Native.Nat.{ℕ, zero, suc, max, ◌+◌, ◌-◌, ◌≤◌}
 use native.Mathlib.Omega.{arith}
-use native.Mathlib.Nat.{mul-le-mul_right}
-use mathlib.Core.Path.{◌≡◌, refl, sym, ap, ◌∙◌}
+use mathlib.Core.Path.{◌≡◌, refl, ap, ◌∙◌}
 use mathlib.Core.Bool.{Bool, true, false, cond}
 use mathlib.Core.List.{List, [], ◌∷◌}
 use mathlib.Core.Option.{none, some}
 use lib.Bits.{bit_or, or_zero_l}
-use lib.Dec.{eqb}
-use lib.ListN.{length, get_or}
-use borrow.Author.Tests.{eq-eqb, ne_eqb}
+use lib.ListN.{length}
+use Rattle.std.specs.Option.{option_or}
 use Rattle.rules.specs.Parts.{Part, size, parts, deep}
 use Rattle.rules.specs.Typing.{tested, written, fits, wrongs}
-use Rattle.rules.specs.Books.{Entry, bytes_of, first_body, entries, most_bytes}
+use Rattle.rules.specs.Books.{Entry, bytes_of, first_body, entries}
 use Rattle.rules.specs.Reading.{tables_of, length_at, reads_at, writes_at, body_start, body_at, main_of, tables_from, policy_of}
 use Rattle.rules.specs.Reading.{wrong_body, misfit, wrongs_in, misfits_in}
 use Rattle.rules.proofs.Whole.{table_at, tables_length}
-use Rattle.typing.specs.Walking.{Tally, told, tally_of, place_in, parts_in, tests_in, writes_in, first_of, mark, noted}
+use Rattle.std.specs.Prelude.{None, Some}
+use Rattle.typing.specs.declared.State.{State}
+use Rattle.typing.specs.declared.Notes.{Notes}
+use Rattle.typing.specs.Walking.{Tally, told, tally_of, begun, mark, noted}
 use Rattle.typing.specs.Summing.{wrongs_of, misfits_of, wrongs_from, misfits_from}
-use Rattle.typing.proofs.TallyLaws.{mark_append, first_none}
-
--- ---- the small functions
-
-pub unused : (d u n : ℕ) → u ≡ 0 → d ≡ max d (cond (eqb u 0) 0 n)
-unused d u n h = rw (eq-eqb u 0 h) (omega arith)
-
-pub used_deeper : (d u n : ℕ) → (u ≡ 0 → ⊥) → d < n → n ≡ max d (cond (eqb u 0) 0 n)
-used_deeper d u n h l = rw (ne_eqb u 0 h) (omega arith)
-
-pub used_less : (d u n : ℕ) → (u ≡ 0 → ⊥) → n ≤ d → d ≡ max d (cond (eqb u 0) 0 n)
-used_less d u n h l = rw (ne_eqb u 0 h) (omega arith)
-
-pub unfit_kept : (u a : ℕ) (t : Bool) → t ≡ true → u ≡ first_of u (cond t 0 (suc a))
-unfit_kept u a t h = rw h (sym (first_none u))
-
-pub unfit_own : (u a : ℕ) (t : Bool) → t ≡ false → u ≡ 0 → a + 1 ≡ first_of u (cond t 0 (suc a))
-unfit_own u a t h z = rw (h, z) (omega arith)
-
-pub unfit_old : (u a : ℕ) (t : Bool) → (u ≡ 0 → ⊥) → u ≡ first_of u (cond t 0 (suc a))
-unfit_old zero a t h = absurd (h refl)
-unfit_old (suc u) a t h = refl
-
-pub product_small : (a b : ℕ) → a < 65536 → b < 65536 → a * b ≤ 4294967296
-product_small a b h l =
-    let p : a * b ≤ 65536 * b = mul-le-mul_right b (omega arith) in
-    omega arith
+use Rattle.typing.proofs.TallyLaws.{mark_append}
 
 -- ---- where the bodies start
 
@@ -66,7 +41,7 @@ start_next s x = refl
 
 -- ---- the faults from entry y on
 
-mark_fits : (t : Bool) (at : ℕ) → mark (cond t [] (at ∷ [])) ≡ cond t 0 (suc at)
+mark_fits : (t : Bool) (at : ℕ) → mark (cond t [] (at ∷ [])) ≡ cond t None (Some at)
 mark_fits true at = refl
 mark_fits false at = refl
 
@@ -74,14 +49,14 @@ module _ (s : List ℕ) (y : ℕ) (h : y ≤ tables_of s) (e : body_start s (suc
   left_one : suc (tables_of s) - y ≡ suc (suc (tables_of s) - suc y)
   left_one = omega arith
 
-  pub wrongs_step : wrongs_from s y ≡ first_of (mark (wrong_body (body_start s y) (body_at s y))) (wrongs_from s (suc y))
+  pub wrongs_step : wrongs_from s y ≡ option_or (mark (wrong_body (body_start s y) (body_at s y))) (wrongs_from s (suc y))
   unfolding wrongs_from tables_from wrongs_in
   wrongs_step =
       rw (left_one, e)
       (mark_append (wrong_body (body_start s y) (body_at s y))
       (wrongs_in (body_start s y + length (bytes_of (body_at s y))) (tables_from s (suc (tables_of s) - suc y) (suc y))))
 
-  pub misfits_step : misfits_from s y ≡ first_of (mark (misfit (body_start s y) (table_at s y) (body_at s y))) (misfits_from s (suc y))
+  pub misfits_step : misfits_from s y ≡ option_or (mark (misfit (body_start s y) (table_at s y) (body_at s y))) (misfits_from s (suc y))
   unfolding misfits_from tables_from misfits_in
   misfits_step =
       rw (left_one, e)
@@ -89,11 +64,11 @@ module _ (s : List ℕ) (y : ℕ) (h : y ≤ tables_of s) (e : body_start s (suc
       (misfits_in (body_start s y + length (bytes_of (body_at s y))) (tables_from s (suc (tables_of s) - suc y) (suc y))))
 
 -- what the body of an entry adds, if it has one
-pub misfit_some : (at : ℕ) (e : Entry) (p : Part) → mark (misfit at e (some p)) ≡ cond (fits e.reads e.writes p) 0 (suc at)
+pub misfit_some : (at : ℕ) (e : Entry) (p : Part) → mark (misfit at e (some p)) ≡ cond (fits e.reads e.writes p) None (Some at)
 unfolding misfit
 misfit_some at e p = mark_fits (fits e.reads e.writes p) at
 
-pub misfit_none : (at : ℕ) (e : Entry) → mark (misfit at e none) ≡ 0
+pub misfit_none : (at : ℕ) (e : Entry) → mark (misfit at e none) ≡ None
 unfolding misfit
 misfit_none at e = refl
 
@@ -101,7 +76,7 @@ pub wrong_some : (at : ℕ) (p : Part) → wrong_body at (some p) ≡ wrongs at 
 unfolding wrong_body
 wrong_some at p = refl
 
-pub wrong_none : (at : ℕ) → mark (wrong_body at none) ≡ 0
+pub wrong_none : (at : ℕ) → mark (wrong_body at none) ≡ None
 unfolding wrong_body
 wrong_none at = refl
 
@@ -109,7 +84,7 @@ module _ (s : List ℕ) (e : body_start s 1 ≡ body_start s 0 + size (main_of s
   one_less : suc (tables_of s) - 1 ≡ tables_of s
   one_less = omega arith
 
-  pub wrongs_main : wrongs_of s ≡ first_of (mark (wrongs (body_start s 0) (main_of s))) (wrongs_from s 1)
+  pub wrongs_main : wrongs_of s ≡ option_or (mark (wrongs (body_start s 0) (main_of s))) (wrongs_from s 1)
   unfolding wrongs_of wrongs_from policy_of entries wrongs_in wrong_body bytes_of
   wrongs_main =
       rw (tables_length s (tables_of s) 1, one_less, e, start_zero s)
@@ -117,7 +92,7 @@ module _ (s : List ℕ) (e : body_start s 1 ≡ body_start s 0 + size (main_of s
       (wrongs_in (first_body (tables_of s) + size (main_of s)) (tables_from s (tables_of s) 1)))
 
   pub misfits_main : misfits_of s
-      ≡ first_of (cond (fits (reads_at s 0) (writes_at s 0) (main_of s)) 0 (suc (body_start s 0))) (misfits_from s 1)
+      ≡ option_or (cond (fits (reads_at s 0) (writes_at s 0) (main_of s)) None (Some (body_start s 0))) (misfits_from s 1)
   unfolding misfits_of misfits_from policy_of entries misfits_in misfit bytes_of
   misfits_main =
       rw (
@@ -134,40 +109,35 @@ module _ (s : List ℕ) where
   none_left : suc (tables_of s) - suc (tables_of s) ≡ 0
   none_left = omega arith
 
-  pub wrongs_end : wrongs_from s (suc (tables_of s)) ≡ 0
+  pub wrongs_end : wrongs_from s (suc (tables_of s)) ≡ None
   unfolding wrongs_from tables_from wrongs_in
   wrongs_end = rw none_left
 
-  pub misfits_end : misfits_from s (suc (tables_of s)) ≡ 0
+  pub misfits_end : misfits_from s (suc (tables_of s)) ≡ None
   unfolding misfits_from tables_from misfits_in
   misfits_end = rw none_left
 
 -- ---- one walk of a body, begun with no parts and no masks
 
-pub record Found (p : Part) (at st : ℕ) (m u n v : List ℕ) : Type 0 where
-  pub count : parts_in st ≡ parts p
-  pub tests : tests_in st ≡ tested p
-  pub writes : writes_in st ≡ written p
-  pub fault : get_or n 0 0 ≡ first_of (get_or m 0 0) (mark (wrongs at p))
-  pub down : get_or n 1 0 ≡ max (get_or m 1 0) (deep p)
-  pub uses : v ≡ noted p 0 u
+pub record Found (p : Part) (at : ℕ) (st : State) (n v : Notes) : Type 0 where
+  pub count : st.parts ≡ parts p
+  pub tests : st.tests ≡ tested p
+  pub writes : st.writes ≡ written p
+  pub fault : v.fault ≡ option_or n.fault (mark (wrongs at p))
+  pub down : v.deep ≡ max n.deep (deep p)
+  pub uses : v.uses ≡ noted p 0 n.uses
 
-pub found : (p : Part) (at st : ℕ) (m u n v : List ℕ) → at ≤ most_bytes → tally_of st n v ≡ told p 0 (tally_of at m u) → Found p at st m u n v
-found p at st m u n v h e =
-    let place : place_in at ≡ at = omega arith in
-    let none : parts_in at ≡ 0 = omega arith in
-    let no_tests : tests_in at ≡ 0 = omega arith in
-    let no_writes : writes_in at ≡ 0 = omega arith in
-    let q : parts_in st ≡ parts_in at + parts p = ap (λ (t : Tally). t.parts) e in
-    let t : tests_in st ≡ bit_or (tests_in at) (tested p) = ap (λ (t : Tally). t.tests) e in
-    let w : writes_in st ≡ bit_or (writes_in at) (written p) = ap (λ (t : Tally). t.writes) e in
-    let f : get_or n 0 0 ≡ first_of (get_or m 0 0) (mark (wrongs (place_in at) p)) = ap (λ (t : Tally). t.fault) e in
-    let d : get_or n 1 0 ≡ max (get_or m 1 0) (0 + deep p) = ap (λ (t : Tally). t.deep) e in
+pub found : (p : Part) (at : ℕ) (st : State) (n v : Notes) → tally_of st v ≡ told p 0 (tally_of (begun at) n) → Found p at st n v
+found p at st n v e =
+    let q : st.parts ≡ 0 + parts p = ap (λ (t : Tally). t.parts) e in
+    let t : st.tests ≡ bit_or 0 (tested p) = ap (λ (t : Tally). t.tests) e in
+    let w : st.writes ≡ bit_or 0 (written p) = ap (λ (t : Tally). t.writes) e in
+    let d : v.deep ≡ max n.deep (0 + deep p) = ap (λ (t : Tally). t.deep) e in
     record {
-      count = omega (arith, q, none);
-      tests = t ∙ ap (λ (i : ℕ). bit_or i (tested p)) no_tests ∙ or_zero_l (tested p);
-      writes = w ∙ ap (λ (i : ℕ). bit_or i (written p)) no_writes ∙ or_zero_l (written p);
-      fault = f ∙ ap (λ (i : ℕ). first_of (get_or m 0 0) (mark (wrongs i p))) place;
+      count = omega (arith, q);
+      tests = t ∙ or_zero_l (tested p);
+      writes = w ∙ or_zero_l (written p);
+      fault = ap (λ (t : Tally). t.fault) e;
       down = omega (arith, d);
       uses = ap (λ (t : Tally). t.uses) e;
     }

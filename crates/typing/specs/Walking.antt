@@ -1,93 +1,89 @@
 -- The one walk: what stands of a body after each part, as one tally that goes through it from left to right.
-use Rattle.std.specs.Prelude.{ℕ, zero, suc, max, ◌+◌, ◌*◌, ◌/◌, ◌%◌, ◌≤◌, ◌<◌, ◌≡◌, Bool, false, cond, List, [], ◌∷◌, eqb, length, get_or, set, Err, Ok, Result}
+use Rattle.std.specs.Option.{option_or}
+use Rattle.std.specs.Prelude.{ℕ, suc, max, ◌+◌, ◌≤◌, ◌<◌, ◌≡◌, Bool, false, not, cond, List, [], ◌∷◌, length, get_or, set}
+use Rattle.std.specs.Prelude.{Option, None, Some, Result, Ok, Err, IfOk}
 use Rattle.std.specs.Int.Bits.{bit_or}
 use Rattle.rules.specs.Codes.{parts_of}
 use Rattle.rules.specs.Parts.{Part, Id, Drop, Test, Set, Not, Sum, Seq, Beside, Table, Open, size, parts, deep}
 use Rattle.rules.specs.Typing.{tested, written, right_masks, wrongs}
 use Rattle.rules.specs.Books.{Scope, scope_of, most_fields, most_tables, most_bytes, most_depth, first_body}
 use Rattle.rules.specs.Reading.{read_body, read_part, part_at, fields_of, tables_of, reads_at, writes_at}
-use Rattle.typing.specs.declared.Walked.{Walked}
-use Rattle.typing.specs.declared.Walked.TheVariants.{On, Off}
+use Rattle.typing.specs.declared.State.{State}
+use Rattle.typing.specs.declared.Way.{Way}
+use Rattle.typing.specs.declared.Use.{Use}
+use Rattle.typing.specs.declared.Notes.{Notes}
 
--- The place; parts so far; T and M so far; the first concurrent part that is not right, one more than its place, 0 if none;
--- the deepest concurrent nesting so far; for each table x how often it was used (at x) and the deepest nesting at a use (at 16 + x).
+-- The place; parts so far; T and M so far; the place of the first concurrent part that is not right; the deepest concurrent nesting
+-- so far; and for each table how often it was used and the deepest nesting at a use.
 pub record Tally : Type 0 where
   pub at : ℕ
   pub parts : ℕ
   pub tests : ℕ
   pub writes : ℕ
-  pub fault : ℕ
+  pub fault : Option ℕ
   pub deep : ℕ
-  pub uses : List ℕ
+  pub uses : List Use
 
--- ---- one number for the first four: 16 bits each
-abbrev pub place_in : ℕ → ℕ
-place_in st = st % 65536
-
-abbrev pub parts_in : ℕ → ℕ
-parts_in st = st / 65536 % 65536
-
-abbrev pub tests_in : ℕ → ℕ
-tests_in st = st / 4294967296 % 65536
-
-abbrev pub writes_in : ℕ → ℕ
-writes_in st = st / 281474976710656
-
-abbrev pub tally_of : ℕ → List ℕ → List ℕ → Tally
-tally_of st marks uses = record {
-  at = place_in st;
-  parts = parts_in st;
-  tests = tests_in st;
-  writes = writes_in st;
-  fault = get_or marks 0 0;
-  deep = get_or marks 1 0;
-  uses = uses;
+abbrev pub tally_of : State → Notes → Tally
+tally_of st n = record {
+  at = st.at;
+  parts = st.parts;
+  tests = st.tests;
+  writes = st.writes;
+  fault = n.fault;
+  deep = n.deep;
+  uses = n.uses;
 }
 
--- a state of which only the place and the parts moved, and one of which only the masks grew
-pub record Moved (st n r : ℕ) : Type 0 where
-  pub place : place_in r ≡ place_in st + 1 + n
-  pub parts : parts_in r ≡ parts_in st + 1
-  pub masks : (tests_in r ≡ tests_in st) × (writes_in r ≡ writes_in st)
+-- ---- the state: before a body, of which only the place and the parts moved, of which only the masks grew, with no masks, and those
+-- of both sides of a concurrent part joined to the one before them
+abbrev pub begun : ℕ → State
+begun start = record { at = start; parts = 0; tests = 0; writes = 0 }
 
-pub record Masked (st t w r : ℕ) : Type 0 where
-  pub place : place_in r ≡ place_in st
-  pub parts : parts_in r ≡ parts_in st
-  pub tests : tests_in r ≡ bit_or (tests_in st) t
-  pub writes : writes_in r ≡ bit_or (writes_in st) w
+abbrev pub moved : ℕ → State → State
+moved n st = record { at = st.at + 1 + n; parts = st.parts + 1; tests = st.tests; writes = st.writes }
 
--- ---- how a part stands: in the main body or in a table's (bit 0), only a predicate (bit 1), concurrent parts above it (the rest)
-abbrev pub open_of : ℕ → ℕ
-open_of way = way / 4
+abbrev pub masked : ℕ → ℕ → State → State
+masked t w st = record { at = st.at; parts = st.parts; tests = bit_or st.tests t; writes = bit_or st.writes w }
 
-abbrev pub pred_of : ℕ → Bool
-pred_of way = eqb (way / 2 % 2) 1
+abbrev pub bare : State → State
+bare st = record { at = st.at; parts = st.parts; tests = 0; writes = 0 }
 
-abbrev pub in_main : ℕ → Bool
-in_main way = eqb (way % 2) 0
+abbrev pub joined : ℕ → ℕ → State → State → State → State
+joined wp wq st l r = record {
+  at = r.at;
+  parts = r.parts;
+  tests = bit_or st.tests (bit_or l.tests r.tests);
+  writes = bit_or st.writes (bit_or wp wq);
+}
 
-abbrev pub scope_at : List ℕ → ℕ → Scope
-scope_at s way = scope_of (fields_of s) (tables_of s) (in_main way)
+-- the rule of a concurrent part with masks wp and wq, over two states
+abbrev pub right_states : ℕ → ℕ → State → State → Bool
+right_states wp wq p q = right_masks wp wq p.tests p.writes q.tests q.writes
+
+-- ---- how a part stands
+abbrev pub scope_at : List ℕ → Way → Scope
+scope_at s w = scope_of (fields_of s) (tables_of s) (not w.in_table)
 
 -- a use of a table by itself, without the table's body
 unfoldable pub shut : List ℕ → ℕ → Part
 shut s x = Open x (reads_at s x) (writes_at s x)
 
 -- ---- what a part adds
-abbrev pub first_of : ℕ → ℕ → ℕ
-first_of zero b = b
-first_of (suc a) b = suc a
+abbrev pub mark : List ℕ → Option ℕ
+mark [] = None
+mark (a ∷ l) = Some a
 
-abbrev pub mark : List ℕ → ℕ
-mark [] = 0
-mark (a ∷ l) = suc a
+abbrev pub unused : Use
+unused = record { count = 0; level = 0 }
 
-unfoldable pub note_use : ℕ → ℕ → List ℕ → List ℕ
-note_use x o l =
-    let u = set l x (get_or l x 0 + 1) in
-    set u (16 + x) (max (get_or u (16 + x) 0) o)
+abbrev pub one_more_use : ℕ → Use → Use
+one_more_use o u = record { count = u.count + 1; level = max u.level o }
 
-unfoldable pub noted : Part → ℕ → List ℕ → List ℕ
+unfoldable pub note_use : ℕ → ℕ → List Use → List Use
+note_use x o l = set l x (one_more_use o (get_or l x unused))
+
+unfoldable pub noted : Part → ℕ → List Use → List Use
 noted Id o l = l
 noted Drop o l = l
 noted (Test f v) o l = l
@@ -95,7 +91,7 @@ noted (Set f v) o l = l
 noted (Not p) o l = noted p o l
 noted (Sum p q) o l = noted q o (noted p o l)
 noted (Seq p q) o l = noted q o (noted p o l)
-noted (Beside wp wq p q) o l = noted q (suc o) (noted p (suc o) l)
+noted (Beside wp wq p q) o l = noted q (o + 1) (noted p (o + 1) l)
 noted (Table x r w start p) o l = note_use x o l
 noted (Open x r w) o l = note_use x o l
 
@@ -105,27 +101,28 @@ told p o t = record {
   parts = t.parts + parts p;
   tests = bit_or t.tests (tested p);
   writes = bit_or t.writes (written p);
-  fault = first_of t.fault (mark (wrongs t.at p));
+  fault = option_or t.fault (mark (wrongs t.at p));
   deep = max t.deep (o + deep p);
   uses = noted p o t.uses;
 }
 
 -- ---- the walk: on with a tally, or off at the place of the first byte that cannot stand there
-pub data Way : Type 0 where
-  Going : Tally → Way
-  Stopped : ℕ → Way
+abbrev pub way_of : Result ℕ ℕ → Tally → Result Tally ℕ
+way_of (Ok e) t = Ok t
+way_of (Err a) t = Err a
 
-abbrev pub way_of : Result ℕ ℕ → Tally → Way
-way_of (Ok e) t = Going t
-way_of (Err a) t = Stopped a
+abbrev pub and_on : Result Tally ℕ → (Tally → Result Tally ℕ) → Result Tally ℕ
+and_on (Ok t) f = f t
+and_on (Err a) f = Err a
 
-abbrev pub and_on : Way → (Tally → Way) → Way
-and_on (Going t) f = f t
-and_on (Stopped a) f = Stopped a
+unfoldable pub walked : List ℕ → Way → ℕ → Tally → Result Tally ℕ
+walked s w d t =
+    way_of (read_part s (scope_at s w) d w.predicate t.at) (told (part_at s (shut s) d t.at) w.level t)
 
-unfoldable pub walked : List ℕ → ℕ → ℕ → Tally → Way
-walked s way d t =
-    way_of (read_part s (scope_at s way) d (pred_of way) t.at) (told (part_at s (shut s) d t.at) (open_of way) t)
+-- what the code answers, as a tally
+abbrev pub tallied : Result State ℕ → Notes → Result Tally ℕ
+tallied (Ok st) n = Ok (tally_of st n)
+tallied (Err a) n = Err a
 
 -- ---- what a walk may rely on, and what it leaves
 pub record Sound (s : List ℕ) : Type 0 where
@@ -137,120 +134,71 @@ pub record Sound (s : List ℕ) : Type 0 where
 
 -- below o concurrent parts
 pub record Kept (s : List ℕ) (o : ℕ) (t : Tally) : Type 0 where
-  pub start : 6 ≤ t.at
   pub within : t.at ≤ length s
   pub parts : t.parts ≤ t.at
-  pub few : (x : ℕ) → get_or t.uses x 0 ≤ t.at + 32
-  pub room : length t.uses ≡ 32
+  pub few : (x : ℕ) → (get_or t.uses x unused).count ≤ t.at
+  pub room : length t.uses ≡ 16
   pub deep : o ≤ t.deep
 
-pub record Asked (s marks uses : List ℕ) (st d way : ℕ) : Type 0 where
+pub record Asked (s : List ℕ) (n : Notes) (st : State) (d : ℕ) (w : Way) : Type 0 where
   pub sound : Sound s
-  pub two : length marks ≡ 2
-  pub kept : Kept s (open_of way) (tally_of st marks uses)
-  pub level : open_of way + d ≤ most_depth
+  pub kept : Kept s w.level (tally_of st n)
+  pub level : w.level + d ≤ most_depth
 
-unfoldable pub Left : List ℕ → ℕ → Way → ℕ → List ℕ → List ℕ → Type 0
-Left s o (Going t) r marks uses = (tally_of r marks uses ≡ t) × (length marks ≡ 2) × Kept s o t
-Left s o (Stopped a) r marks uses = (r ≡ a * 65536) × (a ≤ length s)
+-- the first fault after a concurrent part's sides: its own comes before theirs, and after those before it
+abbrev pub fault_after : Option ℕ → Bool → ℕ → Option ℕ → Option ℕ
+fault_after None right at below = cond right below (Some at)
+fault_after (Some a) right at below = below
 
--- the same of an answer that is taken apart
-unfoldable pub Told : List ℕ → ℕ → Way → Walked → List ℕ → List ℕ → Type 0
-Told s o w (On st) marks uses = (w ≡ Going (tally_of st marks uses)) × (length marks ≡ 2) × Kept s o (tally_of st marks uses)
-Told s o w (Off a) marks uses = (w ≡ Stopped a) × (a ≤ length s)
+-- a concurrent part at hand, and depth below it
+pub record BesideAsked (s : List ℕ) (n : Notes) (st : State) (d : ℕ) (w : Way) : Type 0 where
+  pub asked : Asked s n st (suc d) w
+  pub inside : st.at < length s
+  pub code : get_or s st.at 0 ≡ 7
+  pub free : w.predicate ≡ false
 
--- the answer in one number
-abbrev pub wired : Walked → ℕ
-wired (On st) = st
-wired (Off a) = a * 65536
+-- ---- a part with no parts below it, by the reading of its operands
+abbrev pub if_read : ℕ → Result ℕ ℕ → Result ℕ ℕ
+if_read x (Ok e) = Ok x
+if_read x (Err a) = Err a
 
--- ---- the contracts of the small functions
-abbrev pub Small : Walked → Type 0
-Small (On st) = Unit {0}
-Small (Off a) = a ≤ most_bytes
-
-abbrev pub Apart : ℕ → Walked → Type 0
-Apart r (On st) = (st ≡ r) × (r % 65536 ≡ 0 → ⊥)
-Apart r (Off a) = r ≡ a * 65536
-
--- a part with no parts below it, by the reading of its operands
-abbrev pub Leafed : List ℕ → ℕ → Part → Result ℕ ℕ → ℕ → Type 0
-Leafed s st p (Ok e) r =
-    (place_in r ≡ place_in st + size p) × (parts_in r ≡ parts_in st + parts p) × (tests_in r ≡ bit_or (tests_in st) (tested p))
-    × (writes_in r ≡ bit_or (writes_in st) (written p)) × (place_in st + size p ≤ length s)
-Leafed s st p (Err a) r = (r ≡ a * 65536) × (a ≤ length s)
+abbrev pub leafed : State → Part → Result ℕ ℕ → Result State ℕ
+leafed st p (Ok e) = Ok (record {
+  at = st.at + size p;
+  parts = st.parts + parts p;
+  tests = bit_or st.tests (tested p);
+  writes = bit_or st.writes (written p);
+})
+leafed st p (Err a) = Err a
 
 -- what stands where a code with no parts below it stands
-abbrev pub leaf_read : List ℕ → ℕ → ℕ → Result ℕ ℕ
-leaf_read s way at = read_part s (scope_at s way) 1 (pred_of way) at
+abbrev pub leaf_read : List ℕ → Way → ℕ → Result ℕ ℕ
+leaf_read s w at = read_part s (scope_at s w) 1 w.predicate at
 
 abbrev pub leaf_at : List ℕ → ℕ → Part
 leaf_at s at = part_at s (shut s) 1 at
 
-pub record LeafAsked (s uses : List ℕ) (st way : ℕ) : Type 0 where
+pub record LeafAsked (s : List ℕ) (n : Notes) (st : State) (w : Way) : Type 0 where
   pub sound : Sound s
-  pub inside : place_in st < length s
-  pub parts : parts_in st ≤ place_in st
-  pub leaf : parts_of (get_or s (place_in st) 0) ≡ 0
-  pub room : length uses ≡ 32
-  pub few : (x : ℕ) → get_or uses x 0 ≤ place_in st + 32
-  pub level : open_of way ≤ most_depth
+  pub kept : Kept s w.level (tally_of st n)
+  pub inside : st.at < length s
+  pub leaf : parts_of (get_or s st.at 0) ≡ 0
 
-abbrev pub Noted : ℕ → Part → Result ℕ ℕ → List ℕ → List ℕ → Type 0
-Noted o p (Ok e) uses after =
-    (after ≡ noted p o uses) × (length after ≡ length uses)
-    × ((n y : ℕ) → o ≤ n → length uses ≡ 32 → ((z : ℕ) → get_or uses z 0 ≤ n) → get_or after y 0 ≤ n + 1)
-Noted o p (Err a) uses after = Unit {0}
+-- the notes with other uses, and what is noted of a part
+abbrev pub noting : Notes → List Use → Notes
+noting n u = record { fault = n.fault; deep = n.deep; uses = u }
 
--- the rule of a concurrent part with masks wp and wq, over two states
-abbrev pub right_states : ℕ → ℕ → ℕ → ℕ → Bool
-right_states wp wq p q = right_masks wp wq (tests_in p) (writes_in p) (tests_in q) (writes_in q)
-
--- the states of both sides joined to the one before them
-pub record Joins (st l r wp wq z : ℕ) : Type 0 where
-  pub place : place_in z ≡ place_in r
-  pub parts : parts_in z ≡ parts_in r
-  pub tests : tests_in z ≡ bit_or (tests_in st) (bit_or (tests_in l) (tests_in r))
-  pub writes : writes_in z ≡ bit_or (writes_in st) (bit_or wp wq)
-
--- a state with no masks
-pub record Bare (st z : ℕ) : Type 0 where
-  pub place : place_in z ≡ place_in st
-  pub parts : parts_in z ≡ parts_in st
-  pub masks : (tests_in z ≡ 0) × (writes_in z ≡ 0)
-
--- the first fault after a concurrent part's sides: its own comes before theirs, and after those before it
-abbrev pub fault_after : ℕ → Bool → ℕ → ℕ → ℕ
-fault_after zero right at below = cond right below (suc at)
-fault_after (suc a) right at below = below
-
-abbrev pub WrongWithin : Result ℕ ℕ → Type 0
-WrongWithin (Ok e) = Unit {0}
-WrongWithin (Err a) = a ≤ most_bytes
-
-abbrev pub refused_at : Result ℕ ℕ → ℕ
-refused_at (Ok e) = 0
-refused_at (Err a) = a * 65536
-
--- a concurrent part at hand, and depth below it
-pub record BesideAsked (s marks uses : List ℕ) (st d way : ℕ) : Type 0 where
-  pub sound : Sound s
-  pub two : length marks ≡ 2
-  pub kept : Kept s (open_of way) (tally_of st marks uses)
-  pub level : open_of way + suc d ≤ most_depth
-  pub inside : place_in st < length s
-  pub code : get_or s (place_in st) 0 ≡ 7
-  pub free : pred_of way ≡ false
+abbrev pub Noted : ℕ → Part → Result State ℕ → Notes → Notes → Type 0
+Noted o p r n after = IfOk r (λ _. after ≡ noting n (noted p o n.uses))
 
 -- ---- a whole body: exactly one part, which ends where s ends
-pub record BodyAsked (s marks uses : List ℕ) (start way : ℕ) : Type 0 where
-  pub asked : Asked s marks uses start most_depth way
-  pub front : start ≤ length s
-  pub free : pred_of way ≡ false
+pub record BodyAsked (s : List ℕ) (n : Notes) (start : ℕ) (w : Way) : Type 0 where
+  pub asked : Asked s n (begun start) most_depth w
+  pub free : w.predicate ≡ false
 
-unfoldable pub Body : List ℕ → ℕ → ℕ → Tally → Walked → List ℕ → List ℕ → Type 0
-Body s way start t (On st) marks uses =
-    (read_body s (scope_at s way) start ≡ Ok (length s))
-    × (tally_of st marks uses ≡ told (part_at s (shut s) most_depth start) (open_of way) t) × (length marks ≡ 2)
-    × Kept s (open_of way) (tally_of st marks uses)
-Body s way start t (Off a) marks uses = read_body s (scope_at s way) start ≡ Err a
+unfoldable pub Body : List ℕ → Way → ℕ → Tally → Result State ℕ → Notes → Type 0
+Body s w start t (Ok st) n =
+    (read_body s (scope_at s w) start ≡ Ok (length s))
+    × (tally_of st n ≡ told (part_at s (shut s) most_depth start) w.level t)
+    × Kept s w.level (tally_of st n)
+Body s w start t (Err a) n = read_body s (scope_at s w) start ≡ Err a

@@ -1,323 +1,238 @@
 // One walk over each body: its form, its parts, its concurrent depth, its masks, its first wrong concurrent part and the uses of
 // tables, all in one reading from left to right; then the verdict on a book by arithmetic.
-//
-// What a walk carries:
-// - the state, one number of four times 16 bits, from the lowest up: the place, the parts so far, T and M so far. So the place is
-//   st % WIDTH, the parts are st / WIDTH % WIDTH, T is st / MASKS % WIDTH and M is st / WRITES; one place and one part more is STEP.
-// - the way to a part: bit 0 says that it stands in a table's body, bit 1 that only a predicate may stand there, and the rest counts
-//   the concurrent parts above it.
-// - marks: at 0 the first concurrent part that is not right, one more than its place, 0 if none; at 1 the deepest concurrent nesting.
-// - uses: at x how often table x was used, at 16 + x the deepest concurrent nesting at a use of it.
 #![tactic(auto)]
 
-ghost use Rattle.std.specs.Prelude.{◌≡◌, true, false, cond, not, suc, max, ◌+◌, ◌*◌, ◌≤◌, ◌<◌, eqb, get_or, length, set};
-ghost use Rattle.std.specs.Int.Bits.{bit_or};
+ghost use Rattle.std.specs.Prelude.{◌≡◌, ◌+◌, ◌*◌, ◌≤◌, ◌<◌, not, cond, max, suc, eqb, get_or, length, Some, None, IfOk};
+ghost use Rattle.std.specs.Option.{option_or};
 ghost use Rattle.rules.specs.Codes.{operands_of, parts_of};
 ghost use Rattle.rules.specs.Parts.{Id};
-ghost use Rattle.rules.specs.Masks.{field};
+ghost use Rattle.rules.specs.Masks.{field, within, apart};
 ghost use Rattle.rules.specs.Typing.{fit_masks};
-ghost use Rattle.rules.specs.Reading.{read_operands, fields_of, tables_of, head, built, reads_at, writes_at, verdict};
+ghost use Rattle.rules.specs.Reading.{read_operands, fields_of, tables_of, head, built, verdict};
 ghost use Rattle.rules.specs.Promises.{AcceptAnswer};
-ghost use Rattle.typing.specs.Walking.{place_in, parts_in, tests_in, writes_in, Moved, Masked, Bare, Joins, right_states};
-ghost use Rattle.typing.specs.Walking.{open_of, pred_of, in_main, first_of, fault_after, note_use, shut, tally_of, walked};
-ghost use Rattle.typing.specs.Walking.{wired, Small, Apart, WrongWithin, refused_at, Sound};
-ghost use Rattle.typing.specs.Walking.{LeafAsked, leaf_read, leaf_at, Leafed, Noted, Asked, BesideAsked, Left, Told, BodyAsked};
-ghost use Rattle.typing.specs.Walking.{Body};
+ghost use Rattle.typing.specs.Walking.{moved, masked, bare, joined, right_states, begun, unused, note_use, noting, if_read};
+ghost use Rattle.typing.specs.Walking.{tally_of, tallied, fault_after, walked, shut, leafed, leaf_read, leaf_at, Noted};
+ghost use Rattle.typing.specs.Walking.{Sound, Kept, Asked, BesideAsked, LeafAsked, BodyAsked, Body};
 ghost use Rattle.typing.specs.Summing.{Fronted, Cleared, So, Turned, Ends, Ended};
 
 use rules::{Reason, Refusal, Sizes};
 
-// The room of each of the four in a state.
-const WIDTH: u64 = 65536;
+// The codes.
+const TEST: u8 = 2;
 
-// One place and one part more.
-const STEP: u64 = 65537;
+const SET: u8 = 3;
 
-// The unit of T: the place and the parts stand below it.
-const MASKS: u64 = 4294967296;
+const NOT: u8 = 4;
 
-// The unit of M, the highest of the four.
-const WRITES: u64 = 281474976710656;
+const SUM: u8 = 5;
 
-// ---- an answer in one number, as it goes up through the walk: a state, or a refusal
+const SEQUENCE: u8 = 6;
 
-// On with the state, or off at the place of the first byte that cannot stand there.
+const BESIDE: u8 = 7;
+
+const TABLE: u8 = 8;
+
+// What stands after a part: the place, the parts so far, and T and M so far. It goes up through the walk in memory, so it is small: a
+// body has 4,096 bytes at most.
 #[derive(Clone, Copy)]
-pub enum Walked {
-    On(u64),
-    Off(usize),
+pub struct State {
+    pub at: u16,
+    pub parts: u16,
+    pub tests: u8,
+    pub writes: u8,
 }
 
-// A refusal has its place where a state has its parts, and 0 where a state has its place, which is never 0: so they are told apart.
-fn refusal(place: usize) -> u64
-    requires { place ≤ 4096 }
-    ensures { result ≡ place * 65536 }
-{
-    place as u64 * WIDTH
+// How a part stands: whether in a table's body, whether only a predicate may stand there, and how many concurrent parts are above it.
+#[derive(Clone, Copy)]
+pub struct Way {
+    pub in_table: bool,
+    pub predicate: bool,
+    pub level: u16,
 }
 
-// The answer in one number.
-fn wire(w: Walked) -> u64
-    requires { Small w }
-    ensures { result ≡ wired w }
-{
-    match w {
-        Walked::On(st) => st,
-        Walked::Off(place) => refusal(place),
-    }
+// How often a table is used, and the deepest concurrent nesting at a use of it.
+#[derive(Clone, Copy)]
+pub struct Use {
+    pub count: u16,
+    pub level: u16,
 }
 
-// The answer taken apart again.
-fn unwire(r: u64) -> Walked
-    ensures { Apart r result }
-{
-    if r % WIDTH == 0 {
-        Walked::Off((r / WIDTH) as usize)
-    } else {
-        Walked::On(r)
-    }
-}
-
-// The refusal of a reading, in one number.
-fn refused(r: Result<usize, usize>) -> u64
-    requires { WrongWithin r }
-    ensures { result ≡ refused_at r }
-{
-    match r {
-        Ok(place) => 0,
-        Err(place) => refusal(place),
-    }
+// What a walk notes beside its state: the place of the first concurrent part that is not right, the deepest concurrent nesting, and
+// the uses of each table.
+#[derive(Drop)]
+pub struct Notes {
+    pub fault: Option<usize>,
+    pub deep: u16,
+    pub uses: [Use; 16],
 }
 
 // ---- the state
 
-// Past a code and its operands: one part more.
-fn past(st: u64, code: u8) -> u64
-    requires { (place_in st ≤ 4096) × (parts_in st ≤ 4096) }
-    ensures { Moved st (operands_of code) result }
-{
-    let shape = rules::shape_of(code);
-    st + STEP + shape.operands as u64
-}
-
-// A state without its masks.
-fn bare(st: u64) -> u64
-    ensures { Bare st result }
-{
-    st % MASKS
-}
-
-// With further fields tested and written.
-fn with_masks(st: u64, tests: u64, writes: u64) -> u64
-    requires { (tests < 65536) × (writes < 65536) }
-    ensures { Masked st tests writes result }
-{
-    let masks = st / MASKS;
-    let t = masks % WIDTH | tests;
-    let m = masks / WIDTH | writes;
-    st % MASKS + MASKS * (t + WIDTH * m)
-}
-
-// Both sides' states joined to the state before them.
-fn joined(st: u64, l: u64, r: u64, wp: u8, wq: u8) -> u64
-    ensures { Joins st l r wp wq result }
-{
-    let t = st / MASKS % WIDTH | (l / MASKS % WIDTH | r / MASKS % WIDTH);
-    let m = st / WRITES | (wp | wq) as u64;
-    r % MASKS + MASKS * (t + WIDTH * m)
-}
-
-// The rule of a concurrent part with masks wp and wq, over the states after its sides.
-fn right_states(wp: u8, wq: u8, p: u64, q: u64) -> bool
-    ensures { result ≡ right_states wp wq p q }
-{
-    let v = wp as u64;
-    let w = wq as u64;
-    let mp = p / WRITES;
-    let mq = q / WRITES;
-    if mp | v != v {
-        return false;
+impl State {
+    // The place, as an index.
+    fn place(self) -> usize
+        ensures { result ≡ self.at }
+    {
+        usize::from(self.at)
     }
-    if mq | w != w {
-        return false;
+
+    // Past a code and its operands: one part more.
+    fn past(self, code: u8) -> State
+        requires { (self.at ≤ 4096) × (self.parts ≤ 4096) }
+        ensures { result ≡ moved (operands_of code) self }
+    {
+        let shape = rules::shape_of(code);
+        State {
+            at: self.at + 1 + shape.operands as u16,
+            parts: self.parts + 1,
+            tests: self.tests,
+            writes: self.writes,
+        }
     }
-    if v & w != 0 {
-        return false;
+
+    // The same with no masks.
+    fn bare(self) -> State
+        ensures { result ≡ bare self }
+    {
+        State {
+            at: self.at,
+            parts: self.parts,
+            tests: 0,
+            writes: 0,
+        }
     }
-    if p / MASKS % WIDTH & w != 0 {
-        return false;
-    }
-    q / MASKS % WIDTH & v == 0
-}
 
-// A body fits (R, W) if T lies in R and W together and M lies in W.
-fn fit_state(r: u8, w: u8, st: u64) -> bool
-    ensures { result ≡ fit_masks r w (tests_in st) (writes_in st) }
-{
-    let own = w as u64;
-    let all = r as u64 | own;
-    if st / MASKS % WIDTH | all != all {
-        return false;
-    }
-    st / WRITES | own == own
-}
-
-// The mask of one field.
-fn field_bit(f: u8) -> u64
-    requires { f < 8 }
-    ensures { (result ≡ field f) × (result < 65536) }
-{
-    1u64 << f
-}
-
-// ---- the way
-
-// How many concurrent parts stand above.
-fn level_of(way: usize) -> u16
-    requires { open_of way ≤ 32 }
-    ensures { (result ≡ open_of way) × (result ≤ 32) }
-{
-    (way / 4) as u16
-}
-
-// Under a negation only a predicate may stand.
-fn under_not(way: usize) -> usize
-    requires { open_of way ≤ 32 }
-    ensures { (open_of result ≡ open_of way) × (pred_of result ≡ true) × (in_main result ≡ in_main way) }
-{
-    if way / 2 % 2 == 1 { way } else { way + 2 }
-}
-
-// ---- marks and uses
-
-// The larger of two marks.
-fn larger(a: u16, b: u16) -> u16
-    ensures { result ≡ max a b }
-{
-    if a < b { b } else { a }
-}
-
-// A mark as it is reported.
-fn wide(x: u16) -> usize
-    ensures { result ≡ x }
-{
-    x as usize
-}
-
-// One concurrent part more on the way down.
-fn mark_level(marks: &mut [u16; 2], level: u16)
-    requires { (length marks.old ≡ 2) × (level ≤ 32) }
-    ensures { marks.new ≡ set marks.old 1 (max (get_or marks.old 1 0) (level + 1)) }
-{
-    marks[1] = larger(marks[1], level + 1);
-}
-
-// The first fault, after both sides of a concurrent part at a place.
-fn mark_fault(marks: &mut [u16; 2], old: u16, right: bool, at: usize)
-    requires { (length marks.old ≡ 2) × (at ≤ 4096) }
-    ensures { marks.new ≡ set marks.old 0 (fault_after old right at (get_or marks.old 0 0)) }
-{
-    if old == 0 {
-        if right {} else {
-            marks[0] = (at + 1) as u16;
+    // With further fields tested and written.
+    fn with_masks(self, tests: u8, writes: u8) -> State
+        ensures { result ≡ masked tests writes self }
+    {
+        State {
+            at: self.at,
+            parts: self.parts,
+            tests: self.tests | tests,
+            writes: self.writes | writes,
         }
     }
 }
 
-// A use of table x below so many concurrent parts.
-fn note_use(uses: &mut [u16; 32], x: usize, level: u16)
-    requires { (length uses.old ≡ 32) × (x < 16) × (get_or uses.old x 0 < 65535) }
-    ensures { uses.new ≡ note_use x level uses.old }
+// Both sides' states joined to the state before them.
+fn joined(st: State, l: State, r: State, wp: u8, wq: u8) -> State
+    ensures { result ≡ joined wp wq st l r }
 {
-    uses[x] = uses[x] + 1;
-    uses[16 + x] = larger(uses[16 + x], level);
+    State {
+        at: r.at,
+        parts: r.parts,
+        tests: st.tests | (l.tests | r.tests),
+        writes: st.writes | (wp | wq),
+    }
+}
+
+// Does a mask lie in another?
+fn within(a: u8, b: u8) -> bool
+    ensures { result ≡ within a b }
+{
+    a | b == b
+}
+
+// Have two masks no field in common?
+fn apart(a: u8, b: u8) -> bool
+    ensures { result ≡ apart a b }
+{
+    a & b == 0
+}
+
+// The rule of a concurrent part with masks wp and wq, over the states after its sides.
+fn right_states(wp: u8, wq: u8, p: State, q: State) -> bool
+    ensures { result ≡ right_states wp wq p q }
+{
+    within(p.writes, wp)
+        && within(q.writes, wq)
+        && apart(wp, wq)
+        && apart(p.tests, wq)
+        && apart(q.tests, wp)
+}
+
+// A body fits (R, W) if T lies in R and W together and M lies in W.
+fn fit_state(r: u8, w: u8, st: State) -> bool
+    ensures { result ≡ fit_masks r w st.tests st.writes }
+{
+    within(st.tests, r | w) && within(st.writes, w)
 }
 
 // ---- a part with no parts below it
 
-// A mask, where it is asked for.
-fn mask_if(asked: bool, mask: u64) -> u64
-    ensures { (result ≡ cond asked mask 0) × (result ≤ mask) }
+// The mask of the field of a test or a set, by its code.
+fn field_bit(s: &[u8], st: State, code: u8) -> Result<u8, usize>
+    requires { Sound s.now × (st.at < length s.now) × (2 ≤ code) × (code < 4) }
+    ensures { result ≡ if_read (field (head s.now st.at).field)
+        (read_operands s.now (fields_of s.now) (tables_of s.now) code st.at) }
 {
-    if asked { mask } else { 0 }
+    book::read_operands(s, code, st.place())?;
+    Ok(1 << book::head_at(s, st.place()).field)
 }
 
-// A test or a set of a field, by its code.
-fn field_part(s: &[u8], st: u64, code: u8) -> u64
-    requires { Sound s.now × (place_in st < length s.now) × (parts_in st ≤ place_in st) × (2 ≤ code) × (code < 4) }
-    ensures { Leafed s.now st (built (head s.now (place_in st)) (shut s.now) code Id Id)
-        (read_operands s.now (fields_of s.now) (tables_of s.now) code (place_in st)) result }
+// A use of a table. It goes by the masks that the table's entry declares.
+fn use_part(s: &[u8], notes: &mut Notes, st: State, way: Way) -> Result<State, usize>
+    requires { LeafAsked s.now notes.old st way }
+    ensures read { result ≡ leafed st (built (head s.now st.at) (shut s.now) 8 Id Id)
+        (read_operands s.now (fields_of s.now) (tables_of s.now) 8 st.at) }
+    ensures within { IfOk result (λ r. r.at ≤ length s.now) }
+    ensures noted { Noted way.level (built (head s.now st.at) (shut s.now) 8 Id Id) result notes.old notes.new }
 {
-    let at = (st % WIDTH) as usize;
-    let ops = book::read_operands(s, code, at);
-    let Ok(next) = ops else {
-        return refused(ops);
-    };
-    let h = book::head_at(s, at);
-    let bit = field_bit(h.field);
-    past(
-        with_masks(st, mask_if(code == 2, bit), mask_if(code == 3, bit)),
-        code,
-    )
-}
-
-// A use of table x goes by the masks that its entry declares.
-fn use_masks(s: &[u8], st: u64, x: u8) -> u64
-    requires { Sound s.now }
-    ensures { Masked st (bit_or (reads_at s.now x) (writes_at s.now x)) (writes_at s.now x) result }
-{
-    let r = book::reads_of(s, x);
+    book::read_operands(s, TABLE, st.place())?;
+    let x = book::head_at(s, st.place()).table;
+    notes.add_use(x, way.level);
     let w = book::writes_of(s, x);
-    with_masks(st, (r | w) as u64, w as u64)
+    Ok(st.with_masks(book::reads_of(s, x) | w, w).past(TABLE))
 }
 
-// A use of a table.
-fn use_part(s: &[u8], uses: &mut [u16; 32], st: u64, way: usize) -> u64
-    requires { LeafAsked s.now uses.old st way }
-    ensures { Leafed s.now st (built (head s.now (place_in st)) (shut s.now) 8 Id Id)
-        (read_operands s.now (fields_of s.now) (tables_of s.now) 8 (place_in st)) result
-        × Noted (open_of way) (built (head s.now (place_in st)) (shut s.now) 8 Id Id)
-        (read_operands s.now (fields_of s.now) (tables_of s.now) 8 (place_in st))
-        uses.old uses.new }
-{
-    let at = (st % WIDTH) as usize;
-    let ops = book::read_operands(s, 8, at);
-    let Ok(next) = ops else {
-        return refused(ops);
-    };
-    let h = book::head_at(s, at);
-    note_use(uses, h.table as usize, level_of(way));
-    past(use_masks(s, st, h.table), 8)
+impl Notes {
+    // A use of table x below so many concurrent parts.
+    fn add_use(&mut self, x: u8, level: u16)
+        requires { (length self.old.uses ≡ 16) × (x < 16) × ((get_or self.old.uses x unused).count ≤ 4096) }
+        ensures { self.new ≡ noting self.old (note_use x level self.old.uses) }
+    {
+        let i = usize::from(x);
+        let before = self.uses[i];
+        self.uses[i] = Use {
+            count: before.count + 1,
+            level: before.level.max(level),
+        };
+    }
 }
 
-// A part with no parts below it.
-fn leaf(s: &[u8], uses: &mut [u16; 32], st: u64, way: usize) -> u64
-    requires { LeafAsked s.now uses.old st way }
-    ensures { Leafed s.now st (leaf_at s.now (place_in st)) (leaf_read s.now way (place_in st)) result
-        × Noted (open_of way) (leaf_at s.now (place_in st)) (leaf_read s.now way (place_in st))
-        uses.old uses.new }
+// A part with no parts below it. Inlined: the state is then handed on in registers.
+#[inline(always)]
+fn leaf(s: &[u8], notes: &mut Notes, st: State, way: Way) -> Result<State, usize>
+    requires { LeafAsked s.now notes.old st way }
+    ensures read { result ≡ leafed st (leaf_at s.now st.at) (leaf_read s.now way st.at) }
+    ensures within { IfOk result (λ r. r.at ≤ length s.now) }
+    ensures noted { Noted way.level (leaf_at s.now st.at) result notes.old notes.new }
 {
-    let at = (st % WIDTH) as usize;
-    let code = s[at];
+    let code = s[st.place()];
     match code {
-        0 | 1 => past(st, 0),
-        2 => field_part(s, st, 2),
+        0 | 1 => Ok(st.past(0)),
+        TEST => {
+            let bit = field_bit(s, st, TEST)?;
+            Ok(st.with_masks(bit, 0).past(TEST))
+        }
         // A set is no predicate.
-        3 => {
-            if way / 2 % 2 == 1 {
-                return refusal(at);
+        SET => {
+            if way.predicate {
+                return Err(st.place());
             }
-            field_part(s, st, 3)
+            let bit = field_bit(s, st, SET)?;
+            Ok(st.with_masks(0, bit).past(SET))
         }
         // A table may be used only in the main body, and is no predicate.
-        8 => {
-            if way % 4 == 0 {
-                return use_part(s, uses, st, way);
+        TABLE => {
+            if way.predicate || way.in_table {
+                return Err(st.place());
             }
-            refusal(at)
+            use_part(s, notes, st, way)
         }
         // The codes with parts are the walk's, and none is known from 9 on.
-        4..=7 | 9..=255 => refusal(at),
+        4..=7 | 9..=255 => Err(st.place()),
     }
 }
 
@@ -333,290 +248,256 @@ fn has_parts(code: u8) -> bool
 
 // One side of a sum or a sequence: a part with no parts below it is read here, any other is walked.
 #[cycle(walking)]
-fn side(
-    s: &[u8],
-    marks: &mut [u16; 2],
-    uses: &mut [u16; 32],
-    st: u64,
-    depth: usize,
-    way: usize,
-) -> Walked
-    requires { Asked s.now marks.old uses.old st depth way }
-    ensures { Told s.now (open_of way)
-        (walked s.now way depth (tally_of st marks.old uses.old))
-        result marks.new uses.new }
+#[inline(always)]
+fn side(s: &[u8], notes: &mut Notes, st: State, depth: usize, way: Way) -> Result<State, usize>
+    requires { Asked s.now notes.old st depth way }
+    ensures told { tallied result notes.new ≡ walked s.now way depth (tally_of st notes.old) }
+    ensures kept { IfOk result (λ r. Kept s.now way.level (tally_of r notes.new)) }
 {
-    let at = (st % WIDTH) as usize;
-    if s.len() <= at {
-        return Walked::Off(s.len());
+    if s.len() <= st.place() {
+        return Err(s.len());
     }
     if depth == 0 {
-        return Walked::Off(at);
+        return Err(st.place());
     }
-    if has_parts(s[at]) {
-        return unwire(walk(s, marks, uses, st, depth, way));
+    if has_parts(s[st.place()]) {
+        return walk(s, notes, st, depth, way);
     }
-    unwire(leaf(s, uses, st, way))
+    leaf(s, notes, st, way)
+}
+
+// The first fault after the sides of a concurrent part at a place: its own comes before theirs, and after those before it.
+fn fault_after(before: Option<usize>, right: bool, at: usize, below: Option<usize>) -> Option<usize>
+    ensures { result ≡ fault_after before right at below }
+{
+    if before.is_none() && !right {
+        Some(at)
+    } else {
+        below
+    }
 }
 
 // A concurrent part: its sides each begin with no masks, below one concurrent part more.
 #[cycle(walking)]
 fn beside_part(
     s: &[u8],
-    marks: &mut [u16; 2],
-    uses: &mut [u16; 32],
-    st: u64,
+    notes: &mut Notes,
+    st: State,
     depth: usize,
-    way: usize,
-) -> u64
-    requires { BesideAsked s.now marks.old uses.old st depth way }
-    ensures { Left s.now (open_of way)
-        (walked s.now way (suc depth) (tally_of st marks.old uses.old))
-        result marks.new uses.new }
+    way: Way,
+) -> Result<State, usize>
+    requires { BesideAsked s.now notes.old st depth way }
+    ensures told { tallied result notes.new ≡ walked s.now way (suc depth) (tally_of st notes.old) }
+    ensures kept { IfOk result (λ r. Kept s.now way.level (tally_of r notes.new)) }
 {
-    let at = (st % WIDTH) as usize;
-    let ops = book::read_operands(s, 7, at);
-    let Ok(from) = ops else {
-        return refused(ops);
+    book::read_operands(s, BESIDE, st.place())?;
+    let before = notes.fault;
+    let below = Way {
+        in_table: way.in_table,
+        predicate: way.predicate,
+        level: way.level + 1,
     };
-    let before = marks[0];
-    mark_level(marks, level_of(way));
-    let left = unwire(walk(s, marks, uses, past(bare(st), 7), depth, way + 4));
-    let Walked::On(l) = left else {
-        return wire(left);
+    notes.deep = notes.deep.max(below.level);
+    let left = walk(s, notes, st.bare().past(BESIDE), depth, below);
+    let Ok(l) = left else {
+        return left;
     };
-    let right = unwire(walk(s, marks, uses, bare(l), depth, way + 4));
-    let Walked::On(r) = right else {
-        return wire(right);
+    let right = walk(s, notes, l.bare(), depth, below);
+    let Ok(r) = right else {
+        return right;
     };
-    let h = book::head_at(s, at);
-    mark_fault(marks, before, right_states(h.left, h.right, l, r), at);
-    joined(st, l, r, h.left, h.right)
+    let h = book::head_at(s, st.place());
+    let right = right_states(h.left, h.right, l, r);
+    notes.fault = fault_after(before, right, st.place(), notes.fault);
+    Ok(joined(st, l, r, h.left, h.right))
 }
 
 // The part at the state's place and all below it, at most depth deep. The last part below a code is walked in the loop.
 #[cycle(walking)]
-fn walk(
-    s: &[u8],
-    marks: &mut [u16; 2],
-    uses: &mut [u16; 32],
-    from: u64,
-    depth: usize,
-    way: usize,
-) -> u64
-    requires { Asked s.now marks.old uses.old from depth way }
-    ensures { Left s.now (open_of way)
-        (walked s.now way depth (tally_of from marks.old uses.old))
-        result marks.new uses.new }
+fn walk(s: &[u8], notes: &mut Notes, from: State, depth: usize, way: Way) -> Result<State, usize>
+    requires { Asked s.now notes.old from depth way }
+    ensures told { tallied result notes.new ≡ walked s.now way depth (tally_of from notes.old) }
+    ensures kept { IfOk result (λ r. Kept s.now way.level (tally_of r notes.new)) }
 {
     let mut st = from;
     let mut d = depth;
     let mut w = way;
     loop {
-        let at = (st % WIDTH) as usize;
-        if s.len() <= at {
-            return refusal(s.len());
+        if s.len() <= st.place() {
+            return Err(s.len());
         }
         if d == 0 {
-            return refusal(at);
+            return Err(st.place());
         }
         d -= 1;
-        let code = s[at];
+        let code = s[st.place()];
         match code {
-            4 => {
-                st = past(st, 4);
-                w = under_not(w);
+            NOT => {
+                st = st.past(NOT);
+                w.predicate = true;
             }
-            5 | 6 => {
-                let left = side(s, marks, uses, past(st, 5), d, w);
-                let Walked::On(l) = left else {
-                    return wire(left);
+            SUM | SEQUENCE => {
+                let left = side(s, notes, st.past(SUM), d, w);
+                let Ok(l) = left else {
+                    return left;
                 };
                 st = l;
             }
             // A concurrent part is no predicate.
-            7 => {
-                if w / 2 % 2 == 1 {
-                    return refusal(at);
+            BESIDE => {
+                if w.predicate {
+                    return Err(st.place());
                 }
-                return beside_part(s, marks, uses, st, d, w);
+                return beside_part(s, notes, st, d, w);
             }
             _ => {
-                return leaf(s, uses, st, w);
+                return leaf(s, notes, st, w);
             }
         }
     }
 }
 
 // A body that starts at a place and ends where s ends: what stands after it, or its first byte that cannot stand there.
-fn whole(s: &[u8], marks: &mut [u16; 2], uses: &mut [u16; 32], start: usize, way: usize) -> Walked
-    requires { BodyAsked s.now marks.old uses.old start way }
-    ensures { Body s.now way start (tally_of start marks.old uses.old)
-        result marks.new uses.new }
+fn whole(s: &[u8], notes: &mut Notes, start: usize, way: Way) -> Result<State, usize>
+    requires { BodyAsked s.now notes.old start way }
+    ensures { Body s.now way start (tally_of (begun start) notes.old) result notes.new }
 {
-    let part = unwire(walk(s, marks, uses, start as u64, 32, way));
-    let Walked::On(st) = part else {
+    let before = State {
+        at: start as u16,
+        parts: 0,
+        tests: 0,
+        writes: 0,
+    };
+    let part = walk(s, notes, before, 32, way);
+    let Ok(st) = part else {
         return part;
     };
-    let at = (st % WIDTH) as usize;
-    if at == s.len() {
-        Walked::On(st)
+    if st.place() == s.len() {
+        Ok(st)
     } else {
-        Walked::Off(at)
+        Err(st.place())
     }
 }
 
 // ---- the bodies of a book
 
-// What stands after some bodies: the place of the next, n and D so far, and the first body that does not fit, one more than its
-// place, 0 if none.
+// What stands after some bodies: the place of the next, n and D so far, and the place of the first body that does not fit.
 #[derive(Clone, Copy)]
 pub struct Sums {
     pub at: usize,
     pub parts: usize,
     pub deep: usize,
-    pub unfit: usize,
-}
-
-// The sums of all bodies, or the place of the first byte that cannot stand there.
-#[derive(Clone, Copy)]
-pub enum Summed {
-    All(Sums),
-    Stop(usize),
+    pub unfit: Option<usize>,
 }
 
 // The first body that does not fit, after one more that starts at a place.
-fn first_unfit(unfit: usize, fits: bool, at: usize) -> usize
-    requires { at ≤ 4096 }
-    ensures { result ≡ first_of unfit (cond fits 0 (suc at)) }
+fn first_unfit(unfit: Option<usize>, fits: bool, at: usize) -> Option<usize>
+    ensures { result ≡ option_or unfit (cond fits None (Some at)) }
 {
-    if fits {
-        return unfit;
-    }
-    if unfit == 0 { at + 1 } else { unfit }
+    if fits { unfit } else { unfit.or(Some(at)) }
 }
 
 // n with the parts of a table's body as often as the table is used.
-fn more_parts(parts: usize, used: u16, st: u64) -> usize
+fn more_parts(parts: usize, used: Use, st: State) -> usize
     requires { parts ≤ 68719476736 }
-    ensures { (result ≡ parts + used * parts_in st) × (result ≤ parts + 4294967296) }
+    ensures value { result ≡ parts + used.count * st.parts }
+    ensures small { result ≤ parts + 4294967296 }
 {
-    parts + used as usize * (st / WIDTH % WIDTH) as usize
+    parts + usize::from(used.count) * usize::from(st.parts)
 }
 
 // D with a table's body below its deepest use, if there is one.
-fn deeper(deep: usize, used: u16, level: u16, below: u16) -> usize
-    ensures { result ≡ max deep (cond (eqb used 0) 0 (level + below)) }
+fn deeper(deep: usize, used: Use, below: u16) -> usize
+    ensures { result ≡ max deep (cond (eqb used.count 0) 0 (used.level + below)) }
 {
-    let all = level as usize + below as usize;
-    if used == 0 {
-        return deep;
+    if used.count == 0 {
+        deep
+    } else {
+        deep.max(usize::from(used.level) + usize::from(below))
     }
-    if deep < all { all } else { deep }
 }
 
 // The body of the main policy.
-fn main_body(book: &[u8], marks: &mut [u16; 2], uses: &mut [u16; 32]) -> Summed
-    requires { Fronted book.now × Cleared marks.old uses.old }
-    ensures { Turned book.now 0 result marks.new uses.new }
+fn main_body(book: &[u8], notes: &mut Notes) -> Result<Sums, usize>
+    requires { Fronted book.now × Cleared notes.old }
+    ensures { Turned book.now 0 result notes.new }
 {
     let at = book::body_start(book, 0);
     let end = at + book::length_of(book, 0);
-    let body = whole(&book[..end], marks, uses, at, 0);
-    match body {
-        Walked::On(st) => {
-            let fits = fit_state(book::reads_of(book, 0), book::writes_of(book, 0), st);
-            Summed::All(Sums {
-                at: end,
-                parts: (st / WIDTH % WIDTH) as usize,
-                deep: wide(marks[1]),
-                unfit: first_unfit(0, fits, at),
-            })
-        }
-        Walked::Off(place) => Summed::Stop(place),
-    }
+    let way = Way {
+        in_table: false,
+        predicate: false,
+        level: 0,
+    };
+    let st = whole(&book[..end], notes, at, way)?;
+    let fits = fit_state(book::reads_of(book, 0), book::writes_of(book, 0), st);
+    Ok(Sums {
+        at: end,
+        parts: usize::from(st.parts),
+        deep: usize::from(notes.deep),
+        unfit: first_unfit(None, fits, at),
+    })
 }
 
 // The body of table y, if it is populated.
-fn table_body(book: &[u8], marks: &mut [u16; 2], uses: &mut [u16; 32], y: u8, z: Sums) -> Summed
-    requires { Fronted book.now × So book.now y z marks.old uses.old × (1 ≤ y) × (y ≤ tables_of book.now) }
-    ensures { Turned book.now y result marks.new uses.new }
+fn table_body(book: &[u8], notes: &mut Notes, y: u8, z: Sums) -> Result<Sums, usize>
+    requires { Fronted book.now × So book.now y z notes.old × (1 ≤ y) × (y ≤ tables_of book.now) }
+    ensures { Turned book.now y result notes.new }
 {
     let size = book::length_of(book, y);
     if size == 0 {
-        return Summed::All(z);
+        return Ok(z);
     }
     let at = z.at;
     let end = at + size;
-    marks[1] = 0;
-    let body = whole(&book[..end], marks, uses, at, 1);
-    match body {
-        Walked::On(st) => {
-            let fits = fit_state(book::reads_of(book, y), book::writes_of(book, y), st);
-            let x = y as usize;
-            let used = uses[x];
-            Summed::All(Sums {
-                at: end,
-                parts: more_parts(z.parts, used, st),
-                deep: deeper(z.deep, used, uses[16 + x], marks[1]),
-                unfit: first_unfit(z.unfit, fits, at),
-            })
-        }
-        Walked::Off(place) => Summed::Stop(place),
-    }
+    notes.deep = 0;
+    let way = Way {
+        in_table: true,
+        predicate: false,
+        level: 0,
+    };
+    let st = whole(&book[..end], notes, at, way)?;
+    let fits = fit_state(book::reads_of(book, y), book::writes_of(book, y), st);
+    let used = notes.uses[usize::from(y)];
+    Ok(Sums {
+        at: end,
+        parts: more_parts(z.parts, used, st),
+        deep: deeper(z.deep, used, notes.deep),
+        unfit: first_unfit(z.unfit, fits, at),
+    })
 }
 
 // All bodies, in order.
-fn all_bodies(book: &[u8], marks: &mut [u16; 2], uses: &mut [u16; 32]) -> Summed
-    requires { Fronted book.now × Cleared marks.old uses.old }
-    ensures { Ended book.now result marks.new }
+fn all_bodies(book: &[u8], notes: &mut Notes) -> Result<Sums, usize>
+    requires { Fronted book.now × Cleared notes.old }
+    ensures { Ended book.now result notes.new }
 {
-    let m = book::byte_at(book, 1);
-    let main = main_body(book, marks, uses);
-    let Summed::All(first) = main else {
-        return main;
-    };
-    let mut z = first;
-    let mut y: u8 = 1;
-    while y <= m {
-        let body = table_body(book, marks, uses, y, z);
-        let Summed::All(next) = body else {
-            return body;
-        };
-        z = next;
-        y += 1;
+    let mut z = main_body(book, notes)?;
+    for y in 1..=book::byte_at(book, 1) {
+        z = table_body(book, notes, y, z)?;
     }
-    Summed::All(z)
+    Ok(z)
 }
 
 // ---- the verdict
 
 // The numbers 6 and 7 of a book whose bodies are read.
-fn sentence(book: &[u8], z: Sums, fault: usize) -> Result<Sizes, Refusal>
+fn sentence(book: &[u8], z: Sums, fault: Option<usize>) -> Result<Sizes, Refusal>
     requires { Fronted book.now × Ends book.now z fault }
     ensures { result ≡ verdict book.now }
 {
-    if 1023 < z.parts {
+    if 1023 < z.parts || 4 < z.deep {
         return Err(Reason::Limits.into());
     }
-    if 4 < z.deep {
-        return Err(Reason::Limits.into());
-    }
-    if fault != 0 {
+    if let Some(place) = fault.or(z.unfit) {
         return Err(Refusal {
             reason: Reason::Typing,
-            place: fault - 1,
-        });
-    }
-    if z.unfit != 0 {
-        return Err(Refusal {
-            reason: Reason::Typing,
-            place: z.unfit - 1,
+            place,
         });
     }
     Ok(Sizes {
-        fields: book::byte_at(book, 0) as usize,
-        tables: book::byte_at(book, 1) as usize,
+        fields: usize::from(book::byte_at(book, 0)),
+        tables: usize::from(book::byte_at(book, 1)),
         parts: z.parts,
         deep: z.deep,
     })
@@ -627,12 +508,15 @@ fn bodies(book: &[u8]) -> Result<Sizes, Refusal>
     requires { Fronted book.now }
     ensures { result ≡ verdict book.now }
 {
-    let mut marks = [0u16; 2];
-    let mut uses = [0u16; 32];
-    let all = all_bodies(book, &mut marks, &mut uses);
-    match all {
-        Summed::All(z) => sentence(book, z, wide(marks[0])),
-        Summed::Stop(place) => Err(Refusal {
+    let none = Use { count: 0, level: 0 };
+    let mut notes = Notes {
+        fault: None,
+        deep: 0,
+        uses: [none; 16],
+    };
+    match all_bodies(book, &mut notes) {
+        Ok(z) => sentence(book, z, notes.fault),
+        Err(place) => Err(Refusal {
             reason: Reason::Form,
             place,
         }),

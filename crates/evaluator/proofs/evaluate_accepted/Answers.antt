@@ -30,4 +30,4 @@ returns-in_err-weight c =
 pub returns : goal.returns
 returns c =
     given_is _ _ _ _ c.requires c.if-packet-k.false c.if-res-k.false _ _ (few c.pass.new.set) c.in_ok-weight.ensures _ _
-    c.emit_rows-fits.ensures
+    c.emit-fits.ensures

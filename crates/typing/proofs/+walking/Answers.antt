@@ -1,142 +1,130 @@
 -- The one walk meets its contract: the walk, its sides and its concurrent parts. The measure is the depth that is left. Assumes nothing.
 use native.Mathlib.Omega.{arith}
-use mathlib.Core.Path.{refl}
+use mathlib.Core.Path.{sym}
 use mathlib.Core.Logic.{inl, inr}
-use Rattle.typing.proofs.LeafLaws.{seven_stops, five_six, no_parts, other_codes, wrong_within}
-use Rattle.typing.proofs.CycleLaws.{round_short, round_deep, round_stop, round_leaf, round_not, round_off}
-use Rattle.typing.proofs.CycleLaws.{round_on, off_fits, told_of, leaf_left, side_short, side_deep}
 use lib.ListN.{get_or}
-use Rattle.typing.proofs.BesideLaws.{beside_refused, first_asked, first_off, second_asked, second_off}
-use Rattle.typing.proofs.BesideLaws.{beside_left}
-use Prim.Native.Nat.{◌%◌}
+use Rattle.rules.proofs.HandingUp.{handed_up}
+use Rattle.typing.proofs.LeafLaws.{beside_stops, five_six, no_parts, other_codes}
+use Rattle.typing.proofs.WalkLaws.{walk_short, walk_deep}
+use Rattle.typing.proofs.CycleLaws.{leaf_is_told, leaf_is_kept, round_short, round_deep, round_stop, round_told, kept_as, round_not}
+use Rattle.typing.proofs.CycleLaws.{round_off, round_on}
+use Rattle.typing.proofs.BesideLaws.{beside_refused, first_asked, first_off, second_asked, second_off, both_told, both_kept}
 use Rattle.typing.proofs.+walking.Goals as goal
 use Rattle.typing.proofs.+walking.Goals.{walk-in_default-via-then-code-lt4, walk-in_default-via-else-code-lt4+else-code-lt7}
 
-pub beside_part-refused-requires : goal.beside_part-refused-requires
-beside_part-refused-requires t c =
-    wrong_within c.args.s.now _ _ c.requires.sound.size c.in_default.is
-    c.read_operands-ops.ensures.1
+pub beside_part-returns-in_err-read_operands-clause-told : goal.beside_part-returns-in_err-read_operands-clause-told
+beside_part-returns-in_err-read_operands-clause-told t c =
+    rw (handed_up c.from_residual.ensures.1)
+    (beside_refused _ _ _ _ _ c.requires _ (rw c.place.ensures at c.read_operands.ensures.0) _ c.in_err-read_operands.was)
 
-pub beside_part-returns-in_default : goal.beside_part-returns-in_default
-beside_part-returns-in_default t c =
-    beside_refused _ _ _ _ _ _ c.requires _ c.read_operands-ops.ensures.0
-    c.read_operands-ops.ensures.1 _ _ c.in_default.is c.refused.ensures
+pub beside_part-walk-left-requires : goal.beside_part-walk-left-requires
+beside_part-walk-left-requires t c =
+    let ops = rw c.place.ensures at c.read_operands.ensures.0 in (
+      omega arith,
+      rw (c.past.ensures, c.bare.ensures, c.max-notes.ensures) (first_asked _ _ _ _ _ c.requires _ ops _ c.in_ok-read_operands.was),
+    )
 
-pub beside_part-walk-requires : goal.beside_part-walk-requires
-beside_part-walk-requires t c = (
-  omega arith,
-  first_asked _ _ _ _ _ _ c.requires _ c.read_operands-ops.ensures.0
-      c.read_operands-ops.ensures.1 _ c.in-Ok.is _ _ _ _ c.level_of.ensures.0
-      c.bare.ensures c.past.ensures c.mark_level.ensures,
-)
+pub beside_part-returns-in_default-clause-told : goal.beside_part-returns-in_default-clause-told
+beside_part-returns-in_default-clause-told t c =
+    let ops = rw c.place.ensures at c.read_operands.ensures.0 in
+    first_off _ _ _ _ _ c.requires _ ops _ c.in_ok-read_operands.was _ _
+    (rw (c.past.ensures, c.bare.ensures, c.max-notes.ensures) at c.walk-left.ensures.told) c.walk-left.ensures.kept _ c.in_default.is
 
-pub beside_part-wire-requires : goal.beside_part-wire-requires
-beside_part-wire-requires t c =
-    off_fits _ _ _ _ _ _ _ c.requires.sound c.in_default-left.is
-    (told_of _ _ _ _ _ _ _ c.unwire-left.ensures c.walk.ensures)
+pub beside_part-walk-right-requires : goal.beside_part-walk-right-requires
+beside_part-walk-right-requires t c =
+    let ops = rw c.place.ensures at c.read_operands.ensures.0 in (
+      omega arith,
+      rw c.bare-2.ensures (second_asked _ _ _ _ _ c.requires _ ops _ c.in_ok-read_operands.was _ _
+          (rw (c.past.ensures, c.bare.ensures, c.max-notes.ensures) at c.walk-left.ensures.told) c.walk-left.ensures.kept _ c.in-Ok.is),
+    )
 
-pub beside_part-returns-in_default-left : goal.beside_part-returns-in_default-left
-beside_part-returns-in_default-left t c =
-    first_off _ _ _ _ _ _ c.requires _ c.read_operands-ops.ensures.0 c.read_operands-ops.ensures.1
-    _ c.in-Ok.is _ _ _ _ c.level_of.ensures.0 c.bare.ensures c.past.ensures
-    c.mark_level.ensures _ _ _ (told_of _ _ _ _ _ _ _ c.unwire-left.ensures c.walk.ensures) _ _
-    c.in_default-left.is c.wire.ensures
-
-pub beside_part-walk-requires-2 : goal.beside_part-walk-requires-2
-beside_part-walk-requires-2 t c = (
-  omega arith,
-  second_asked _ _ _ _ _ _ c.requires _ c.read_operands-ops.ensures.0
-      c.read_operands-ops.ensures.1 _ c.in-Ok.is _ _ _ _ c.level_of.ensures.0
-      c.bare.ensures c.past.ensures c.mark_level.ensures _ _ _
-      (told_of _ _ _ _ _ _ _ c.unwire-left.ensures c.walk.ensures) _ c.in-On.is _ c.bare-2.ensures,
-)
-
-pub beside_part-wire-requires-in_default-right : goal.beside_part-wire-requires-in_default-right
-beside_part-wire-requires-in_default-right t c =
-    off_fits _ _ _ _ _ _ _ c.requires.sound c.in_default-right.is
-    (told_of _ _ _ _ _ _ _ c.unwire-right.ensures c.walk-2.ensures)
-
-pub beside_part-returns-in_default-right : goal.beside_part-returns-in_default-right
-beside_part-returns-in_default-right t c =
-    second_off _ _ _ _ _ _ c.requires _ c.read_operands-ops.ensures.0 c.read_operands-ops.ensures.1
-    _ c.in-Ok.is _ _ _ _ c.level_of.ensures.0 c.bare.ensures c.past.ensures
-    c.mark_level.ensures _ _ _ (told_of _ _ _ _ _ _ _ c.unwire-left.ensures c.walk.ensures) _
-    c.in-On.is _ c.bare-2.ensures _ _ _
-    (told_of _ _ _ _ _ _ _ c.unwire-right.ensures c.walk-2.ensures) _ _ c.in_default-right.is
-    c.wire-in_default-right.ensures
+pub beside_part-returns-in_default-right-clause-told : goal.beside_part-returns-in_default-right-clause-told
+beside_part-returns-in_default-right-clause-told t c =
+    let ops = rw c.place.ensures at c.read_operands.ensures.0 in
+    second_off _ _ _ _ _ c.requires _ ops _ c.in_ok-read_operands.was _ _
+    (rw (c.past.ensures, c.bare.ensures, c.max-notes.ensures) at c.walk-left.ensures.told) c.walk-left.ensures.kept _ c.in-Ok.is _ _
+    (rw c.bare-2.ensures at c.walk-right.ensures.told) c.walk-right.ensures.kept _ c.in_default-right.is
 
 pub beside_part-returns : goal.beside_part-returns
 beside_part-returns t c =
-    beside_left _ _ _ _ _ _ c.requires _ c.read_operands-ops.ensures.0
-    c.read_operands-ops.ensures.1 _ c.in-Ok.is _ _ _ _ c.level_of.ensures.0
-    c.bare.ensures c.past.ensures c.mark_level.ensures _ _ _
-    (told_of _ _ _ _ _ _ _ c.unwire-left.ensures c.walk.ensures) _ c.in-On.is _
-    c.bare-2.ensures _ _ _ (told_of _ _ _ _ _ _ _ c.unwire-right.ensures c.walk-2.ensures) _
-    c.in-On-right.is _ _ _ _ c.head_at-h.ensures c.right_states.ensures
-    c.mark_fault.ensures c.joined.ensures
+    let ops = rw c.place.ensures at c.read_operands.ensures.0 in
+    let t1 = rw (c.past.ensures, c.bare.ensures, c.max-notes.ensures) at c.walk-left.ensures.told in
+    let t2 = rw c.bare-2.ensures at c.walk-right.ensures.told in
+    let i = rw c.place-2.ensures at c.head_at-h.ensures in
+    record {
+      told
+          = rw (c.joined.ensures, c.fault_after-notes.ensures, c.right_states-right.ensures, c.place-3.ensures)
+          (both_told _ _ _ _ _ c.requires _ ops _ c.in_ok-read_operands.was _ _ t1 c.walk-left.ensures.kept _ c.in-Ok.is _ _
+          t2 c.walk-right.ensures.kept _ c.in-Ok-right.is _ i);
+      kept
+          = rw c.joined.ensures
+          (both_kept _ _ _ _ _ c.requires _ ops _ c.in_ok-read_operands.was _ _ t1 c.walk-left.ensures.kept _ c.in-Ok.is _ _
+          t2 c.walk-right.ensures.kept _ c.in-Ok-right.is _ i _);
+    }
 
-pub side-returns-then-s-at : goal.side-returns-then-s-at
-side-returns-then-s-at t c =
-    side_short _ _ _ _ c.args.marks.now c.args.uses.now c.if-s-at.true
+pub side-returns-then-s-place-clause-told : goal.side-returns-then-s-place-clause-told
+side-returns-then-s-place-clause-told t c = sym (walk_short _ c.args.way _ _ (omega arith))
 
-pub side-returns-then-depth-eq0 : goal.side-returns-then-depth-eq0
-side-returns-then-depth-eq0 t c =
-    side_deep _ _ _ _ c.args.marks.now c.args.uses.now c.if-s-at.false c.if-depth-eq0.true
-
-pub side-returns-then-has_parts : goal.side-returns-then-has_parts
-side-returns-then-has_parts t c = told_of _ _ _ _ _ _ _ c.unwire.ensures c.walk.ensures
+pub side-returns-then-depth-eq0-clause-told : goal.side-returns-then-depth-eq0-clause-told
+side-returns-then-depth-eq0-clause-told t c =
+    rw c.place-then-depth-eq0.ensures (sym (walk_deep _ c.args.way _ _ (omega arith) c.if-depth-eq0.true))
 
 pub side-returns : goal.side-returns
 side-returns t c =
-    told_of _ _ _ _ c.unwire-2.result _ _ c.unwire-2.ensures
-    (leaf_left _ _ _ _ c.args.marks.now c.args.uses.now _ c.requires.kept c.requires.two
-    (omega (arith, c.requires.level)) c.if-s-at.false (no_parts _ _ c.has_parts.ensures c.if-has_parts.false) _
-    c.if-depth-eq0.false c.leaf.ensures)
+    let none = no_parts _ _ (rw c.place-2.ensures at c.has_parts.ensures) c.if-has_parts.false in
+    let l = c.leaf.ensures in
+    record {
+      told = leaf_is_told _ _ _ _ _ c.requires.kept (omega arith) none _ c.if-depth-eq0.false _ l.read l.noted;
+      kept = leaf_is_kept _ _ _ _ _ c.requires.kept (omega arith) none _ c.if-depth-eq0.false _ l.read l.noted l.within;
+    }
 
-pub walk-returns-then-s-at : goal.walk-returns-then-s-at
-walk-returns-then-s-at t c =
-    round_short _ _ _ _ _ _ _ _ _ c.loop-from.invariant _ c.if-s-at.true c.refusal.ensures
+pub walk-returns-then-s-place-clause-told : goal.walk-returns-then-s-place-clause-told
+walk-returns-then-s-place-clause-told t c = round_short _ _ _ _ _ _ _ _ c.loop-st.invariant (omega arith)
 
-pub walk-returns-then-d-eq0 : goal.walk-returns-then-d-eq0
-walk-returns-then-d-eq0 t c =
-    round_deep _ _ _ _ _ _ _ _ _ c.loop-from.invariant _ c.if-s-at.false c.if-d-eq0.true c.refusal-then-d-eq0.ensures
+pub walk-returns-then-d-eq0-clause-told : goal.walk-returns-then-d-eq0-clause-told
+walk-returns-then-d-eq0-clause-told t c =
+    rw c.place-then-d-eq0.ensures (round_deep _ _ _ _ _ _ _ _ c.loop-st.invariant (omega arith) c.if-d-eq0.true)
 
-pub walk-loop-from-preserved-in-4 : goal.walk-loop-from-preserved-in-4
-walk-loop-from-preserved-in-4 t c =
-    round_not _ _ _ _ _ _ _ _ _ c.loop-from.invariant c.if-s-at.false c.if-d-eq0.false _ _ c.in-4.is
-    c.past-st.ensures c.under_not-w.ensures
+pub walk-loop-st-preserved-in-4 : goal.walk-loop-st-preserved-in-4
+walk-loop-st-preserved-in-4 t c =
+    rw c.past-st.ensures
+    (round_not _ _ _ _ _ _ _ _ c.loop-st.invariant (omega arith) c.if-d-eq0.false (rw c.place-in-loop-st.ensures at c.in-4.is))
 
-pub walk-returns-then-w-eq1 : goal.walk-returns-then-w-eq1
-walk-returns-then-w-eq1 t c =
-    round_stop _ _ _ _ _ _ _ _ _ c.loop-from.invariant c.if-s-at.false c.if-d-eq0.false _
-    (seven_stops _ _ c.in-7.is c.if-w-eq1.true) c.refusal-then-w-eq1.ensures
+pub walk-returns-then-w-clause-told : goal.walk-returns-then-w-clause-told
+walk-returns-then-w-clause-told t c =
+    rw c.place-then-w.ensures
+    (round_stop _ _ _ _ _ _ _ _ c.loop-st.invariant (omega arith) c.if-d-eq0.false
+    (rw (rw c.place-in-loop-st.ensures at c.in-7.is) (beside_stops _ _ c.if-w.true)))
 
-pub walk-wire-requires : goal.walk-wire-requires
-walk-wire-requires t c =
-    off_fits _ _ _ _ _ _ _ c.loop-from.invariant.asked.sound c.in_default-left.is c.side-left.ensures
+pub walk-returns-in_default-left-clause-told : goal.walk-returns-in_default-left-clause-told
+walk-returns-in_default-left-clause-told t c =
+    let code = get_or c.args.s.now c.place-in-loop-st.result 0 in
+    let two = rw c.place-in-loop-st.ensures at (five_six code (omega arith) (omega arith)) in
+    round_off _ _ _ _ _ _ _ _ c.loop-st.invariant (omega arith) c.if-d-eq0.false two _ _
+    (rw c.past.ensures at c.side-left.ensures.told) _ c.in_default-left.is
 
-pub walk-returns-in_default-left : goal.walk-returns-in_default-left
-walk-returns-in_default-left t c =
-    let code = get_or c.args.s.now (c.loop-from.st % 65536) 0 in
-    let two-parts = five_six code (omega arith) (omega arith) in
-    round_off _ _ _ _ _ _ _ _ _ c.loop-from.invariant c.if-s-at.false c.if-d-eq0.false _ _ c.past.ensures refl two-parts
-    _ _ _ c.side-left.ensures _ _
-    c.in_default-left.is c.wire.ensures
-
-pub walk-loop-from-preserved : goal.walk-loop-from-preserved
-walk-loop-from-preserved t c =
-    let code = get_or c.args.s.now (c.loop-from.st % 65536) 0 in
-    let two-parts = five_six code (omega arith) (omega arith) in
-    round_on _ _ _ _ _ _ _ _ _ c.loop-from.invariant c.if-s-at.false c.if-d-eq0.false _ _ c.past.ensures refl two-parts
-    _ _ _ c.side-left.ensures _
-    c.in-On.is
+pub walk-loop-st-preserved : goal.walk-loop-st-preserved
+walk-loop-st-preserved t c =
+    let code = get_or c.args.s.now c.place-in-loop-st.result 0 in
+    let two = rw c.place-in-loop-st.ensures at (five_six code (omega arith) (omega arith)) in
+    round_on _ _ _ _ _ _ _ _ c.loop-st.invariant (omega arith) c.if-d-eq0.false two _ _
+    (rw c.past.ensures at c.side-left.ensures.told) _ c.in-Ok.is c.side-left.ensures.kept
 
 pub walk-returns-in_default : goal.walk-returns-in_default
 walk-returns-in_default t c =
-    round_leaf _ _ _ _ _ _ _ _ _ c.loop-from.invariant c.if-s-at.false c.if-d-eq0.false _ _
-    (other_codes (get_or c.args.s.now (c.loop-from.st % 65536) 0) (λ e. omega arith) (λ e. omega arith)
+    let code = get_or c.args.s.now c.place-in-loop-st.result 0 in
+    let none = rw c.place-in-loop-st.ensures at (other_codes code (λ e. omega arith) (λ e. omega arith)
     (elim c.in_default.branch [
       | walk-in_default-via-then-code-lt4 w ↦ inl (omega arith)
       | walk-in_default-via-else-code-lt4+else-code-lt7 w ↦ inr (omega arith)
-    ]))
-    c.leaf.ensures
+    ])) in
+    let l = c.leaf.ensures in
+    let kept = c.loop-st.invariant.asked.kept in
+    record {
+      told
+          = round_told _ _ _ _ _ _ _ _ c.loop-st.invariant (omega arith) c.if-d-eq0.false _ _
+          (leaf_is_told _ _ _ _ _ kept (omega arith) none _ c.if-d-eq0.false _ l.read l.noted);
+      kept
+          = kept_as _ _ _ _ _ _ _ _ c.loop-st.invariant (omega arith) c.if-d-eq0.false _ _
+          (leaf_is_kept _ _ _ _ _ kept (omega arith) none _ c.if-d-eq0.false _ l.read l.noted l.within);
+    }

@@ -1,9 +1,13 @@
 -- `fit_state` meets its contract. Assumes nothing.
-use Rattle.typing.proofs.MaskTests.{fit_tests, fit_writes}
+use native.Mathlib.Omega.{arith}
+use Rattle.std.proofs.lemmas.Grind.{common_steps}
+use Rattle.rules.specs.Typing.{fit_masks}
 use Rattle.typing.proofs.fit_state.Goals as goal
 
-pub returns-then-st-all : goal.returns-then-st-all
-returns-then-st-all c = fit_tests _ _ _ _ c.if-st-all.true
+pub returns-then-within : goal.returns-then-within
+unfolding fit_masks
+returns-then-within c = grind (arith, common_steps)
 
-pub returns : goal.returns
-returns c = fit_writes _ _ _ _ c.if-st-all.false
+pub returns-else-within : goal.returns-else-within
+unfolding fit_masks
+returns-else-within c = grind (arith, common_steps)

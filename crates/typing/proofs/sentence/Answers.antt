@@ -1,24 +1,18 @@
 -- `sentence` meets its contract. Assumes nothing.
-use Rattle.typing.proofs.EndLaws.{many_parts, too_deep, wrong_part, wrong_body_lem, accepted}
+use mathlib.Core.Path.{◌∙◌}
+use mathlib.Core.Logic.{⊎_elim, inl, inr}
+use Rattle.typing.proofs.EndLaws.{over_limits, not_typed, accepted}
 use Rattle.typing.proofs.sentence.Goals as goal
 
 pub returns-then-z-gt1023 : goal.returns-then-z-gt1023
 returns-then-z-gt1023 c =
-    rw c.into.ensures (many_parts _ c.requires.0 _ _ c.requires.1 c.if-z-gt1023.true)
+    rw c.into.ensures (over_limits _ c.requires.0 _ _ c.requires.1 (⊎_elim inl (λ h. inr h.1) c.then-z-gt1023.either))
 
-pub returns-then-z-gt4 : goal.returns-then-z-gt4
-returns-then-z-gt4 c =
-    rw c.into-then-z-gt4.ensures (too_deep _ c.requires.0 _ _ c.requires.1 c.if-z-gt1023.false c.if-z-gt4.true)
-
-pub returns-then-fault-ne0 : goal.returns-then-fault-ne0
-returns-then-fault-ne0 c =
-    wrong_part _ c.requires.0 _ _ c.requires.1 c.if-z-gt1023.false c.if-z-gt4.false c.if-fault-ne0.true
-
-pub returns-then-z-ne0 : goal.returns-then-z-ne0
-returns-then-z-ne0 c =
-    wrong_body_lem _ c.requires.0 _ _ c.requires.1 c.if-z-gt1023.false c.if-z-gt4.false c.if-fault-ne0.false c.if-z-ne0.true
+pub returns-in-Some : goal.returns-in-Some
+returns-in-Some c =
+    not_typed _ c.requires.0 _ _ c.requires.1 c.if-z-gt1023.false c.if-z-gt4.false _ c.or.ensures _ c.in-Some.is
 
 pub returns : goal.returns
 returns c =
-    accepted _ c.requires.0 _ _ c.requires.1 c.if-z-gt1023.false c.if-z-gt4.false c.if-fault-ne0.false c.if-z-ne0.false _ _
-    c.byte_at.ensures c.byte_at-2.ensures
+    accepted _ c.requires.0 _ _ c.requires.1 c.if-z-gt1023.false c.if-z-gt4.false _ c.or.ensures c.in_default.is _ _
+    (c.from.ensures ∙ c.byte_at.ensures) (c.from-2.ensures ∙ c.byte_at-2.ensures)

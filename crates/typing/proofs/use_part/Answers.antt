@@ -1,25 +1,30 @@
 -- `use_part` meets its contract. Assumes nothing.
-use Rattle.typing.proofs.LeafLaws.{wrong_within, leafed_wrong, wrong_noted, note_asked, use_left, shown}
+use Rattle.rules.proofs.HandingUp.{handed_up}
+use Rattle.typing.proofs.LeafLaws.{shown, leafed_wrong, ends_within, use_asked, use_left, use_noted}
 use Rattle.typing.proofs.use_part.Goals as goal
 
-pub refused-requires : goal.refused-requires
-refused-requires c =
-    wrong_within c.args.s.now _ _ c.requires.sound.size c.in_default.is c.read_operands-ops.ensures.1
+pub returns-in_err-read_operands : goal.returns-in_err-read_operands
+returns-in_err-read_operands c =
+    rw (handed_up c.from_residual.ensures.1) (record {
+      read = leafed_wrong _ _ _ _ _ (rw c.place.ensures at c.read_operands.ensures.0) c.in_err-read_operands.was;
+      within = tt;
+      noted = tt;
+    })
 
-pub returns-in_default : goal.returns-in_default
-returns-in_default c = (
-  leafed_wrong _ _ _ _ _ _ _ c.read_operands-ops.ensures.0 c.in_default.is c.read_operands-ops.ensures.1
-      c.refused.ensures,
-  wrong_noted c.args.s.now _ _ _ _ _ _ _ c.read_operands-ops.ensures.0 c.in_default.is,
-)
-
-pub note_use-requires : goal.note_use-requires
-note_use-requires c =
-    note_asked _ _ _ _ (shown _ _ _ c.requires.inside c.head_at-h.ensures) c.read_operands-ops.ensures.0
-    c.in-Ok.is c.requires
+pub add_use-requires : goal.add_use-requires
+add_use-requires c =
+    use_asked _ _ _ _ c.requires _ _ (rw c.place.ensures at c.read_operands.ensures.0) c.in_ok-read_operands.was _
+    (shown _ _ _ c.requires.inside (rw c.place-2.ensures at c.head_at-x.ensures))
 
 pub returns : goal.returns
 returns c =
-    use_left _ _ _ _ _ _ _ _ _ _ (shown _ _ _ c.requires.inside c.head_at-h.ensures) c.read_operands-ops.ensures.0
-    c.in-Ok.is c.requires.sound.tables c.level_of.ensures.0 c.note_use.ensures
-    c.use_masks.ensures c.past.ensures
+    let ops = rw c.place.ensures at c.read_operands.ensures.0 in
+    let h = shown _ _ _ c.requires.inside (rw c.place-2.ensures at c.head_at-x.ensures) in
+    let within = ends_within _ c.args.st 8 _ _ ops c.in_ok-read_operands.was in
+    rw (c.past.ensures, c.with_masks.ensures) (record {
+      read
+          = use_left _ _ _ _ c.requires _ _ ops c.in_ok-read_operands.was _ h _ _
+          (rw (c.reads_of.ensures, c.writes_of-w.ensures)) c.writes_of-w.ensures;
+      within = within;
+      noted = use_noted _ _ _ _ c.requires _ _ ops c.in_ok-read_operands.was _ h _ c.add_use.ensures;
+    })
