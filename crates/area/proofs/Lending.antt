@@ -31,10 +31,6 @@ pub slot_size : (w : List ℕ) (i : ℕ) → i < positions → length w ≡ area
 unfolding part
 slot_size w i h room = length-take-le slot_words (drop (slot_from i) w) (omega (arith, length-drop (slot_from i) w))
 
-pub first_row : (v : List ℕ) → get_or (rows_of row_words v) 0 [] ≡ take row_words v
-unfolding chunks
-first_row v = refl
-
 pub record Back (w v : List ℕ) (i : ℕ) (ys : List ℕ) : Type 0 where
   pub here : slot_at v i ≡ ys
   pub out : OutsideSlot w v i

@@ -15,7 +15,7 @@ fn copy_out(work: &Words, i: usize, n: usize) -> [u16; SLOT_WORDS]
     ensures { Held row_words result n (rows_at work.now i n) }
 {
     let mut v = [0u16; SLOT_WORDS];
-    rows::copy_rows(&mut v, &work[slot_range(i)], n, ROW_WORDS);
+    rows::copy_rows::<ROW_WORDS>(&mut v, &work[slot_range(i)], n);
     v
 }
 
@@ -27,7 +27,7 @@ pub fn lack_slots(work: &mut Words, i: usize, n: usize, c: usize, m: usize) -> u
 {
     let b = copy_out(work, c, m);
     tidy(work, i, n);
-    sets::difference_in(&mut work[slot_range(i)], n, &b, m, ROW_WORDS)
+    sets::difference_in::<ROW_WORDS>(&mut work[slot_range(i)], n, &b, m)
 }
 
 // The first packet of slot l, but its fields w from that of slot r, as the first packet of slot i.
@@ -37,15 +37,12 @@ fn pair_one(work: &mut Words, i: usize, l: usize, r: usize, w: u16)
         (mix w (packet_at work.old l 0) (packet_at work.old r 0)) }
 {
     let words: &Words = work;
-    let p = rows::mix_rows(
+    let p: [u16; ROW_WORDS] = rows::mixed(
         w,
-        &words[slot_range(l)],
-        0,
-        &words[slot_range(r)],
-        0,
-        ROW_WORDS,
+        rows::row(&words[slot_range(l)], 0),
+        rows::row(&words[slot_range(r)], 0),
     );
-    rows::put_row(&mut work[slot_range(i)], 0, &p, ROW_WORDS);
+    rows::put_row(&mut work[slot_range(i)], 0, &p);
 }
 
 // The first packet of slot i without the fields w, as the first packet of slot j.
@@ -53,8 +50,8 @@ pub fn bare_packet(work: &mut Words, i: usize, j: usize, w: u16)
     requires { (i < positions) × (j < positions) }
     ensures { Rowed work.old work.new j 0 (without w (packet_at work.old i 0)) }
 {
-    let p = rows::bare_row(w, &work[slot_range(i)], ROW_WORDS);
-    rows::put_row(&mut work[slot_range(j)], 0, &p, ROW_WORDS);
+    let p: [u16; ROW_WORDS] = rows::bare(w, rows::row(&work[slot_range(i)], 0));
+    rows::put_row(&mut work[slot_range(j)], 0, &p);
 }
 
 // Every pairing of one of the a packets of slot l and one of the b of slot r, in slot i: the fields w from the latter. Gives how many.
@@ -78,7 +75,7 @@ pub fn pair_slots(
     let x = copy_out(work, l, a);
     let y = copy_out(work, r, b);
     tidy(work, i, 0);
-    sets::pairs_into(&mut work[slot_range(i)], &x, a, &y, b, w, ROW_WORDS).unwrap()
+    sets::pairs_into::<ROW_WORDS>(&mut work[slot_range(i)], &x, a, &y, b, w).unwrap()
 }
 
 // How packet x of slot l lies to packet y of slot r.
@@ -86,7 +83,7 @@ fn order_packets(work: &Words, l: usize, x: usize, r: usize, y: usize) -> Orderi
     requires { (l < positions) × (x < most_packets) × (r < positions) × (y < most_packets) }
     ensures { result ≡ order_of (packet_at work.now l x) (packet_at work.now r y) }
 {
-    rows::order_rows(&work[slot_range(l)], x, &work[slot_range(r)], y, ROW_WORDS)
+    rows::order_rows::<ROW_WORDS>(&work[slot_range(l)], x, &work[slot_range(r)], y)
 }
 
 // The next packet of a union: its slot and its row there, and where the two sets go on after it.

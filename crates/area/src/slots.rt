@@ -21,7 +21,7 @@ pub fn put_packet(work: &mut Words, i: usize, p: [u16; ROW_WORDS])
     requires { i < positions }
     ensures { Rowed work.old work.new i 0 p }
 {
-    rows::put_row(&mut work[slot_range(i)], 0, &p, ROW_WORDS);
+    rows::put_row(&mut work[slot_range(i)], 0, &p);
 }
 
 // The first k values of each of the n packets of slot i written out, where there is room.
@@ -29,7 +29,7 @@ pub fn emit_packets(work: &Words, i: usize, n: usize, k: usize, out: &mut [u16])
     requires { (i < positions) × (n ≤ most_packets) }
     ensures { Emitted result (values_of k (rows_at work.now i n)) out.old out.new }
 {
-    rows::emit_rows(&work[slot_range(i)], n, k, ROW_WORDS, out)
+    rows::emit_rows::<ROW_WORDS>(&work[slot_range(i)], n, k, out)
 }
 
 // Packet m of slot j put as packet k of slot i too.
@@ -37,8 +37,8 @@ pub fn move_packet(work: &mut Words, i: usize, k: usize, j: usize, m: usize)
     requires { (i < positions) × (k < most_packets) × (j < positions) × (m < most_packets) }
     ensures { Rowed work.old work.new i k (packet_at work.old j m) }
 {
-    let p = rows::row(&work[slot_range(j)], m, ROW_WORDS);
-    rows::put_row(&mut work[slot_range(i)], k, &p, ROW_WORDS);
+    let p: [u16; ROW_WORDS] = *rows::row(&work[slot_range(j)], m);
+    rows::put_row(&mut work[slot_range(i)], k, &p);
 }
 
 // Packets m to n - 1 of slot i put at the front of slot j.
@@ -56,7 +56,7 @@ pub fn tidy(work: &mut Words, i: usize, n: usize)
     requires { HasSet work.old i n }
     ensures { Tidied work.old work.new i n }
 {
-    rows::clear_rows(&mut work[slot_range(i)], n, MOST_PACKETS, ROW_WORDS);
+    rows::clear_rows::<ROW_WORDS>(&mut work[slot_range(i)], n, MOST_PACKETS);
 }
 
 // How many of the one packet of slot i pass a test.
@@ -64,7 +64,7 @@ fn keep_one(work: &Words, i: usize, f: usize, x: u16) -> usize
     requires { i < positions }
     ensures { Filled work.now work.now i result (keep (passes f x) (rows_at work.now i 1)) }
 {
-    if rows::passes_at(&work[slot_range(i)], 0, f, x, ROW_WORDS) {
+    if rows::passes_at::<ROW_WORDS>(&work[slot_range(i)], 0, f, x) {
         1
     } else {
         0
@@ -80,7 +80,7 @@ pub fn keep_packets(work: &mut Words, i: usize, n: usize, f: usize, x: u16) -> u
         return keep_one(work, i, f, x);
     }
     tidy(work, i, n);
-    sets::keep_in(&mut work[slot_range(i)], n, f, x, ROW_WORDS)
+    sets::keep_in::<ROW_WORDS>(&mut work[slot_range(i)], n, f, x)
 }
 
 // The one packet of slot i with a field set.
@@ -89,7 +89,7 @@ fn set_one(work: &mut Words, i: usize, f: usize, x: u16)
     ensures { Filled work.old work.new i 1 (gathered (map (put f x) (rows_at work.old i 1))) }
 {
     if f < ROW_WORDS {
-        rows::put_at(&mut work[slot_range(i)], 0, f, x, ROW_WORDS);
+        rows::put_at::<ROW_WORDS>(&mut work[slot_range(i)], 0, f, x);
     }
 }
 
@@ -103,5 +103,5 @@ pub fn set_packets(work: &mut Words, i: usize, n: usize, f: usize, x: u16) -> us
         return 1;
     }
     tidy(work, i, n);
-    sets::set_in(&mut work[slot_range(i)], n, f, x, ROW_WORDS)
+    sets::set_in::<ROW_WORDS>(&mut work[slot_range(i)], n, f, x)
 }

@@ -9,23 +9,7 @@ ghost use Rattle.rules.specs.Reading.{number_at, length_at, reads_at, writes_at,
 ghost use Rattle.rules.specs.Reading.{field_wrong, masks_wrong, table_wrong, operands_wrong, operands_at, read_operands};
 ghost use Rattle.book.specs.Operands.{WrongPlace, Within};
 
-use rules::Head;
-
-// The codes with operands.
-const TEST: u8 = 2;
-
-const SET: u8 = 3;
-
-const BESIDE: u8 = 7;
-
-const TABLE: u8 = 8;
-
-// The limits of 1 and 2.
-const MOST_BYTES: usize = 4096;
-
-const MOST_FIELDS: u8 = 8;
-
-const MOST_TABLES: u8 = 15;
+use rules::{BESIDE, Head, MOST_BYTES, MOST_FIELDS, MOST_TABLES, SET, TABLE, TEST};
 
 // The byte at a place, 0 past the end.
 pub fn byte_at(s: &[u8], at: usize) -> u8

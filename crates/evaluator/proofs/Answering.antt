@@ -26,6 +26,7 @@ use Rattle.rules.proofs.Answering.{evaluated_open, evaluated_wide, evaluated_giv
 use Rattle.rules.proofs.AcceptedBooks.{accepted_sizes, accepted_fields, accepted_parts, accepted_deep}
 use Rattle.rows.specs.Arrays.{Emitted}
 use Rattle.rules.specs.declared.Reason.{Reason}
+use Rattle.evaluator.specs.declared.Body.TheVariants.{Main}
 use Rattle.evaluator.specs.Work.{named_in, part_in, Fair, NotWide, Sees}
 use Rattle.evaluator.specs.Passing.{Passable, Passed, Stopped}
 use Rattle.evaluator.specs.declared.Worked.{Worked}
@@ -103,7 +104,7 @@ pub few_fields : (s p : List ℕ) → Passable s p → length p ≤ 8
 few_fields s p h = omega (arith, h.words, (accepted_fields s _ h.accepted.1).1)
 
 -- the main policy, where its body starts
-main_is : (s : List ℕ) (start : ℕ) → start ≡ body_start s 0 → part_in s true most_depth start ≡ main_of s
+main_is : (s : List ℕ) (start : ℕ) → start ≡ body_start s 0 → part_in s Main most_depth start ≡ main_of s
 unfolding main_of named_in
 main_is s start e = rw e
 
@@ -115,15 +116,15 @@ module _ (s : List ℕ) (start : ℕ) (e : start ≡ body_start s 0) where
   open_is n (Some i) k = rw (← e) k.0
 
   -- what evaluation of the main policy asks of an accepted book
-  pub main_fair : (z : Sizes) → verdict s ≡ Ok z → names_open (main_of s) ≡ false → Fair (part_in s true most_depth start)
+  pub main_fair : (z : Sizes) → verdict s ≡ Ok z → names_open (main_of s) ≡ false → Fair (part_in s Main most_depth start)
   main_fair z v closed =
       rw (main_is s start e) (record { few = accepted_parts s z v; shallow = accepted_deep s z v; closed = closed })
 
   module _ (p : List ℕ) {u : Packets} (k : u ≡ start_set p) (closed : names_open (main_of s) ≡ false) where
-    pub main_wide : most_packets < width (part_in s true most_depth start) u → Stopped s p TooWide
+    pub main_wide : most_packets < width (part_in s Main most_depth start) u → Stopped s p TooWide
     main_wide h = inr (refl, record { populated = closed; wide = rw (main_is s start e, k) at h })
 
-    pub main_through : {t : Packets} {n c : ℕ} {w : Worked} → NotWide (part_in s true most_depth start) u n t w → c ≡ length t
+    pub main_through : {t : Packets} {n c : ℕ} {w : Worked} → NotWide (part_in s Main most_depth start) u n t w → c ≡ length t
         → Passed s p (record { count = c; steps = w.steps; room = w.room }) t
     main_through d l =
         let g = rw (main_is s start e, k) at d in

@@ -1,7 +1,7 @@
 -- What the evaluator's functions require and give: a part at a place on the packets of a set, or the news that it is too wide. The field
 -- mask is not needed: a field that a position lacks holds 0.
-use Rattle.std.specs.Prelude.{ℕ, ◌≤◌, ◌<◌, ◌≡◌, Bool, true, false, List}
-use Rattle.std.specs.Prelude.{Option, Some, None, Result, Ok, Err}
+use Rattle.std.specs.Prelude.{ℕ, ◌≤◌, ◌<◌, ◌≡◌, false, List}
+use Rattle.std.specs.Prelude.{true, Option, Some, None, Result, Ok, Err}
 use Rattle.rules.specs.Packets.{Packets, most_packets}
 use Rattle.rules.specs.Parts.{Part, Not, Sum, Seq, Beside, parts, deep, names_open}
 use Rattle.rules.specs.Books.{most_parts, most_beside, no_use}
@@ -10,29 +10,31 @@ use Rattle.rules.specs.declared.Sizes.{Sizes}
 use Rattle.rules.specs.Reading.{length_at, tables_of, verdict, part_at, use_at, after}
 use Rattle.rules.specs.Working.{out, steps, room, width}
 use Rattle.sets.specs.declared.packet_set.TooWide.{TooWide}
+use Rattle.evaluator.specs.declared.Body.{Body}
+use Rattle.evaluator.specs.declared.Body.TheVariants.{Main, Table}
 use Rattle.evaluator.specs.declared.Worked.{Worked}
 
 -- what a use of table x stands for, in the main body and in a table's
-unfoldable pub named_in : List ℕ → Bool → ℕ → Part
-named_in s true = use_at s
-named_in s false = no_use
+unfoldable pub named_in : List ℕ → Body → ℕ → Part
+named_in s Main = use_at s
+named_in s Table = no_use
 
--- the part at a place of the main body or of a table's
-abbrev pub part_in : List ℕ → Bool → ℕ → ℕ → Part
-part_in s main d at = part_at s (named_in s main) d at
+-- the part at a place of such a body
+abbrev pub part_in : List ℕ → Body → ℕ → ℕ → Part
+part_in s body d at = part_at s (named_in s body) d at
 
 -- the parts over the parts from a place on, and the concurrent part with a head
-abbrev pub not_from : List ℕ → Bool → ℕ → ℕ → Part
-not_from s main d from = Not (part_in s main d from)
+abbrev pub not_from : List ℕ → Body → ℕ → ℕ → Part
+not_from s body d from = Not (part_in s body d from)
 
-abbrev pub sum_from : List ℕ → Bool → ℕ → ℕ → Part
-sum_from s main d from = Sum (part_in s main d from) (part_in s main d (after s d from))
+abbrev pub sum_from : List ℕ → Body → ℕ → ℕ → Part
+sum_from s body d from = Sum (part_in s body d from) (part_in s body d (after s d from))
 
-abbrev pub seq_from : List ℕ → Bool → ℕ → ℕ → Part
-seq_from s main d from = Seq (part_in s main d from) (part_in s main d (after s d from))
+abbrev pub seq_from : List ℕ → Body → ℕ → ℕ → Part
+seq_from s body d from = Seq (part_in s body d from) (part_in s body d (after s d from))
 
-abbrev pub beside_of : List ℕ → Bool → ℕ → Head → Part
-beside_of s main d h = Beside h.left h.right (part_in s main d h.from) (part_in s main d (after s d h.from))
+abbrev pub beside_of : List ℕ → Body → ℕ → Head → Part
+beside_of s body d h = Beside h.left h.right (part_in s body d h.from) (part_in s body d (after s d h.from))
 
 -- the place after two parts
 abbrev pub after_two : List ℕ → ℕ → ℕ → ℕ

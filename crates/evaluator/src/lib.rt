@@ -1,12 +1,12 @@
 // The evaluator: one packet through a book (document 01, "Meaning", "Steps" and the numbers 8, 12, 9, 10).
 // evaluate_part and the functions of the codes call each other; all that they combine is done by functions outside that cycle. Lent down
-// the cycle is one PacketSet, which holds the packets that come to a part and then those that it gives. The book and whether it is the main
-// body stay two parameters: in a struct of both, a clause would have to say body.entry.book.now where it says book.now. Fair is said of
-// another part in each function, so that no type can keep it.
+// the cycle is one PacketSet, which holds the packets that come to a part and then those that it gives. The book and the kind of the body
+// stay two parameters: in a struct of both, a clause would have to say body.entry.book.now where it says book.now. Fair is said of another
+// part in each function, so that no type can keep it.
 #![tactic(auto)]
 
-ghost use Rattle.std.specs.Prelude.{◌≡◌, true, false, [], ◌∷◌, ◌+◌, ◌<◌, ◌≤◌, max, length, take, drop, Ok};
-ghost use Rattle.rules.specs.Packets.{places, keep, lacks};
+ghost use Rattle.std.specs.Prelude.{◌≡◌, true, false, [], ◌∷◌, ◌+◌, ◌≤◌, max, drop, Ok};
+ghost use Rattle.rules.specs.Packets.{keep, lacks};
 ghost use Rattle.rules.specs.Parts.{Drop, Test, Set, names_open};
 ghost use Rattle.rules.specs.Reading.{after, use_at, part_at, main_of, verdict};
 ghost use Rattle.rules.specs.Answers.{start_set};
@@ -16,12 +16,19 @@ ghost use Rattle.evaluator.specs.Work.{named_in, part_in, not_from, sum_from, se
 ghost use Rattle.evaluator.specs.Work.{after_two, Fair, NotWide, Did, Small, Sees, IsAccepted, Populated, worked};
 ghost use Rattle.evaluator.specs.Passing.{Passable, Passes, Weighs};
 
-use rows::{MOST, Row};
+use rows::MOST;
 use rules::{Head, Outcome, Reason, Refusal, Sizes};
-use sets::{PacketSet, TooWide};
+use sets::{PacketSet, Row, TooWide};
 
 // How deep the parts of a body lie at most.
 const DEPTH: usize = 32;
+
+// Where a part stands: in the body of the main policy, or in a table's, where no table is used.
+#[derive(Clone, Copy, Debug, PartialEq, Eq)]
+enum Body {
+    Main,
+    Table,
+}
 
 // What a part comes to beside the packets: its steps, its room, and the place after it. That the numbers are Small is no fact of the type:
 // of a union's it follows from the part, and not from the numbers of the two below.
@@ -120,13 +127,13 @@ fn seq_of(first: Worked, second: Worked) -> Worked
 }
 
 // What a table's body comes to; the use of the table ends before next.
-fn table_of(body: Worked, next: usize) -> Worked
-    requires { Small body }
-    ensures { result ≡ worked (1 + body.steps) body.room next }
+fn table_of(part: Worked, next: usize) -> Worked
+    requires { Small part }
+    ensures { result ≡ worked (1 + part.steps) part.room next }
 {
     Worked {
-        steps: 1 + body.steps,
-        room: body.room,
+        steps: 1 + part.steps,
+        room: part.room,
         next,
     }
 }
@@ -144,17 +151,17 @@ fn none_at(book: &[u8], from: usize, depth: usize) -> Worked
 #[cycle(evaluating)]
 fn not_at(
     book: &[u8],
-    main: bool,
+    body: Body,
     from: usize,
     depth: usize,
     set: &mut PacketSet,
 ) -> Result<Worked, TooWide>
-    requires { Fair (not_from book.now main depth from) }
-    ensures { Did (not_from book.now main depth from)
+    requires { Fair (not_from book.now body depth from) }
+    ensures { Did (not_from book.now body depth from)
         (packets set.old) (after book.now depth from) (packets set.new) result }
 {
     let mut given = set.copied();
-    let part = evaluate_part(book, main, from, depth, &mut given)?;
+    let part = evaluate_part(book, body, from, depth, &mut given)?;
     not_given(set, &given);
     Ok(not_of(part))
 }
@@ -163,18 +170,18 @@ fn not_at(
 #[cycle(evaluating)]
 fn sum_at(
     book: &[u8],
-    main: bool,
+    body: Body,
     from: usize,
     depth: usize,
     set: &mut PacketSet,
 ) -> Result<Worked, TooWide>
-    requires { Fair (sum_from book.now main depth from) }
-    ensures { Did (sum_from book.now main depth from)
+    requires { Fair (sum_from book.now body depth from) }
+    ensures { Did (sum_from book.now body depth from)
         (packets set.old) (after_two book.now depth from) (packets set.new) result }
 {
     let mut other = set.copied();
-    let first = evaluate_part(book, main, from, depth, set)?;
-    let second = evaluate_part(book, main, first.next, depth, &mut other)?;
+    let first = evaluate_part(book, body, from, depth, set)?;
+    let second = evaluate_part(book, body, first.next, depth, &mut other)?;
     set.join(&other)?;
     Ok(joined(first, second))
 }
@@ -183,17 +190,17 @@ fn sum_at(
 #[cycle(evaluating)]
 fn seq_at(
     book: &[u8],
-    main: bool,
+    body: Body,
     from: usize,
     depth: usize,
     set: &mut PacketSet,
 ) -> Result<Worked, TooWide>
-    requires { Fair (seq_from book.now main depth from) }
-    ensures { Did (seq_from book.now main depth from)
+    requires { Fair (seq_from book.now body depth from) }
+    ensures { Did (seq_from book.now body depth from)
         (packets set.old) (after_two book.now depth from) (packets set.new) result }
 {
-    let first = evaluate_part(book, main, from, depth, set)?;
-    let second = evaluate_part(book, main, first.next, depth, set)?;
+    let first = evaluate_part(book, body, from, depth, set)?;
+    let second = evaluate_part(book, body, first.next, depth, set)?;
     Ok(seq_of(first, second))
 }
 
@@ -201,21 +208,21 @@ fn seq_at(
 #[cycle(evaluating)]
 fn one_packet(
     book: &[u8],
-    main: bool,
+    body: Body,
     head: Head,
     depth: usize,
     row: &Row,
     out: &mut PacketSet,
 ) -> Result<Worked, TooWide>
     requires none_yet { packets out.old ≡ [] }
-    requires fair { Fair (beside_of book.now main depth head) }
-    ensures { Did (beside_of book.now main depth head)
-        (take places row.now ∷ []) (after_two book.now depth head.from) (packets out.new) result }
+    requires fair { Fair (beside_of book.now body depth head) }
+    ensures { Did (beside_of book.now body depth head)
+        (row.now ∷ []) (after_two book.now depth head.from) (packets out.new) result }
 {
     let mut left = PacketSet::alone(row, head.right, out.mask);
-    let first = evaluate_part(book, main, head.from, depth, &mut left)?;
+    let first = evaluate_part(book, body, head.from, depth, &mut left)?;
     let mut right = PacketSet::alone(row, head.left, out.mask);
-    let second = evaluate_part(book, main, first.next, depth, &mut right)?;
+    let second = evaluate_part(book, body, first.next, depth, &mut right)?;
     out.pair(&left, &right, head.right)?;
     Ok(joined(first, second))
 }
@@ -224,7 +231,7 @@ fn one_packet(
 #[cycle(evaluating)]
 fn walk_packets(
     book: &[u8],
-    main: bool,
+    body: Body,
     head: Head,
     depth: usize,
     set: &PacketSet,
@@ -233,20 +240,20 @@ fn walk_packets(
 ) -> Result<Worked, TooWide>
     requires within { i ≤ set.now.count }
     requires none_yet { packets out.old ≡ [] }
-    requires fair { Fair (beside_of book.now main depth head) }
-    ensures { Did (beside_of book.now main depth head)
+    requires fair { Fair (beside_of book.now body depth head) }
+    ensures { Did (beside_of book.now body depth head)
         (drop i (packets set.now)) (after_two book.now depth head.from) (packets out.new) result }
 {
     if i == set.count {
         return Ok(none_at(book, head.from, depth));
     }
     let row = set.packet(i);
-    let first = one_packet(book, main, head, depth, &row, out)?;
+    let first = one_packet(book, body, head, depth, &row, out)?;
     if i + 1 == set.count {
         return Ok(first);
     }
     let mut rest = PacketSet::empty(out.mask);
-    let second = walk_packets(book, main, head, depth, set, i + 1, &mut rest)?;
+    let second = walk_packets(book, body, head, depth, set, i + 1, &mut rest)?;
     out.join(&rest)?;
     Ok(joined(first, second))
 }
@@ -255,57 +262,59 @@ fn walk_packets(
 #[cycle(evaluating)]
 fn beside_at(
     book: &[u8],
-    main: bool,
+    body: Body,
     head: Head,
     depth: usize,
     set: &mut PacketSet,
 ) -> Result<Worked, TooWide>
-    requires { Fair (beside_of book.now main depth head) }
-    ensures { Did (beside_of book.now main depth head)
+    requires { Fair (beside_of book.now body depth head) }
+    ensures { Did (beside_of book.now body depth head)
         (packets set.old) (after_two book.now depth head.from) (packets set.new) result }
 {
     if set.count == 1 {
         let row = set.packet(0);
         set.clear();
-        return one_packet(book, main, head, depth, &row, set);
+        return one_packet(book, body, head, depth, &row, set);
     }
     let whole = set.copied();
     set.clear();
-    walk_packets(book, main, head, depth, &whole, 0, set)
+    walk_packets(book, body, head, depth, &whole, 0, set)
 }
 
 // Code 8, a use of a table: the table's body in the main body, nothing in a table's.
 #[cycle(evaluating)]
 fn table_at(
     book: &[u8],
-    main: bool,
+    body: Body,
     table: u8,
     next: usize,
     set: &mut PacketSet,
 ) -> Result<Worked, TooWide>
-    requires { Fair (named_in book.now main table) }
-    ensures { Did (named_in book.now main table)
+    requires { Fair (named_in book.now body table) }
+    ensures { Did (named_in book.now body table)
         (packets set.old) next (packets set.new) result }
 {
-    if !main {
-        return Ok(leaf(0, next));
+    match body {
+        Body::Table => Ok(leaf(0, next)),
+        Body::Main => {
+            let start = book::body_start(book, table);
+            let part = evaluate_part(book, Body::Table, start, DEPTH, set)?;
+            Ok(table_of(part, next))
+        }
     }
-    let start = book::body_start(book, table);
-    let body = evaluate_part(book, false, start, DEPTH, set)?;
-    Ok(table_of(body, next))
 }
 
 // The part at a place, in the main body or in a table's, on the packets of a set. Past the end, and below the depth, stands id.
 #[cycle(evaluating)]
 fn evaluate_part(
     book: &[u8],
-    main: bool,
+    body: Body,
     at: usize,
     depth: usize,
     set: &mut PacketSet,
 ) -> Result<Worked, TooWide>
-    requires { Fair (part_in book.now main depth at) }
-    ensures { Did (part_in book.now main depth at)
+    requires { Fair (part_in book.now body depth at) }
+    ensures { Did (part_in book.now body depth at)
         (packets set.old) (after book.now depth at) (packets set.new) result }
 {
     if depth == 0 {
@@ -317,11 +326,11 @@ fn evaluate_part(
         1 => Ok(drop_of(set, head.from)),
         2 => Ok(test_of(head.field, head.value, set, head.from)),
         3 => Ok(set_of(head.field, head.value, set, head.from)),
-        4 => not_at(book, main, head.from, below, set),
-        5 => sum_at(book, main, head.from, below, set),
-        6 => seq_at(book, main, head.from, below, set),
-        7 => beside_at(book, main, head, below, set),
-        8 => table_at(book, main, head.table, head.from, set),
+        4 => not_at(book, body, head.from, below, set),
+        5 => sum_at(book, body, head.from, below, set),
+        6 => seq_at(book, body, head.from, below, set),
+        7 => beside_at(book, body, head, below, set),
+        8 => table_at(book, body, head.table, head.from, set),
         _ => Ok(leaf(0, head.from)),
     }
 }
@@ -387,7 +396,7 @@ fn pass(book: &[u8], packet: &[u16], set: &mut PacketSet) -> Result<Weight, Reas
         return Err(Reason::Unpopulated);
     }
     let start = book::body_start(book, 0);
-    let w = evaluate_part(book, true, start, DEPTH, set)?;
+    let w = evaluate_part(book, Body::Main, start, DEPTH, set)?;
     Ok(Weight {
         count: set.count,
         steps: w.steps,

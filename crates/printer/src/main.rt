@@ -4,16 +4,18 @@
 mod lines;
 mod text;
 
-ghost use Rattle.std.specs.Prelude.{◌≤◌, ◌≡◌, IfOk, IfSome, MatchResult, Ok, take};
+ghost use Rattle.std.specs.Prelude.{◌≤◌, ◌≡◌, IfOk, IfSome, MatchResult, Ok, OnOk, take};
+ghost use Rattle.std.specs.Io.KnownBytes.{Appends};
 ghost use Rattle.rules.specs.Reading.{verdict};
 ghost use Rattle.printer.specs.Printing.{words_in, refused_line, printed};
 ghost use Rattle.printer.specs.Building.{HasBook, Asks, ran_text};
 
+use area::AREA_WORDS;
 use arrayvec::ArrayVec;
 use lines::{finished, refused, running};
 use rules::{Ran, Reason, Refusal, Sizes};
 use std::io;
-use std::io::{Print, Read};
+use std::io::{Read, Write};
 use text::Text;
 
 // The longest book and schedule that are read.
@@ -23,6 +25,9 @@ const MOST_CHOICES: usize = 8192;
 
 // As much of the input as decides what is printed: 2 + 4,096 + 16 + 8,193 bytes.
 const MOST_INPUT: usize = 12307;
+
+// Sixteen packets of eight values.
+const RESULT_WORDS: usize = 16 * 8;
 
 // What an input asks for: the run of an accepted book, whose sizes are these, on a packet and under a schedule.
 #[derive(Drop)]
@@ -83,8 +88,8 @@ fn print_answer(book: &[u8], packet: &[u16], schedule: &[u8], sizes: Sizes) -> T
     requires { verdict book.now ≡ Ok sizes }
     ensures { result.bytes ≡ ran_text book.now packet.now schedule.now }
 {
-    let mut result = [0u16; 128];
-    let mut work = [0u16; 21760];
+    let mut result = [0u16; RESULT_WORDS];
+    let mut work = [0u16; AREA_WORDS];
     match machine::run_accepted(book, packet, schedule, &mut result, &mut work, sizes) {
         Ok(Ran::Finished(f)) => finished(f, sizes.fields, &result),
         Ok(Ran::Running(p)) => running(p),
@@ -112,7 +117,15 @@ fn read_front<R: Read>(from: &mut R) -> io::Result<ArrayVec<u8, MOST_INPUT>>
     Ok(input)
 }
 
+// What is printed for the whole input goes out.
+fn run<R: Read, W: Write>(from: &mut R, to: &mut W) -> io::Result<()>
+    ensures { OnOk result (IfSome (R.remaining from.old)
+        (λ bytes. Appends (W.contents to.old) (W.contents to.new) (printed bytes))) }
+{
+    let input = read_front(from)?;
+    to.write_all(print_run(input.as_slice()).as_str().as_bytes())
+}
+
 fn main(rt: HostRuntime) -> io::Result<()> {
-    let input = read_front(&mut rt.reader())?;
-    rt.print(print_run(input.as_slice()))
+    run(&mut rt.reader(), &mut io::writer(&rt))
 }

@@ -1,94 +1,21 @@
--- An array as the list of its rows, r values each: what a block of eight, a row or a value put into the array does to the list.
-use Prim.Native.Nat.{ℕ, zero, suc, ◌+◌, ◌*◌, ◌-◌, ◌≤◌, ◌<◌}
+-- An array as the list of its rows, r values each: what a row or a value put into the array does to the list.
+use Prim.Native.Nat.{ℕ, zero, suc, ◌+◌, ◌*◌, ◌-◌, ◌/◌, ◌≤◌, ◌<◌}
 use mathlib.Core.Path.{◌≡◌, refl, sym, ap, ap₂, ◌∙◌}
 use mathlib.Core.List.{List, [], ◌∷◌, ◌++◌, append_assoc}
 use native.Mathlib.Omega.{arith}
-use native.Mathlib.Numerals.{towards_suc}
-use native.Mathlib.Nat.{suc-mul, zero-mul, add_comm, zero-add, suc-add, mul-le-mul_right}
+use native.Mathlib.Nat.{suc-mul, zero-mul, add_comm, zero-add, suc-add, mul-le-mul_right, div-eq_of_eq-mul_left}
 use lib.ListN.{length, take, drop, get_or, set, replicate, length-take, length-drop, length-set, take-append-drop, get_or-eq_default}
-use lib.Seq.{drop-cons, drop-drop, take_all, take-append-le, drop-append-le, sets, sets-eq, take-take, take-add, set_at}
-use lib.Seq.{length-take-le, take_at, drop_at, get_or-take, get_or-drop, paste, length-paste, take-paste, drop-paste}
+use lib.Seq.{drop-drop, take_all, take-append-le, drop-append-le, take-take, set_at}
+use lib.Seq.{length-take-le, take_at, drop_at, paste, length-paste}
 use lib.Seq.{take-set-le, take-set-lt, drop-set-lt, drop-set-add}
+use borrow.Author.Tests.{ltb-true, ltb-false}
+use denote.Bor.{Bor}
+use Rattle.std.specs.Prelude.{Option, Some, None, unwrap_or, option_copied}
+use Rattle.std.specs.Slice.{IsItemAt}
+use Rattle.std.proofs.lemmas.Grind.{get_or_default_zero}
+use Rattle.std.specs.Simd.{first_chunks}
 use Rattle.rules.specs.Packets.{Packet, Packets}
-use Rattle.rows.specs.declared.Blocks.{Blocks}
 use Rattle.rows.specs.Chunks.{chunks, rows_of, blank, Array, Stored}
-use Rattle.rows.specs.Arrays.{eight_at, stored_at, Lifted}
-
--- ---- eight reads, eight stores
-
-take_step : (v : List ℕ) (b k : ℕ) → b < length v → take (suc k) (drop b v) ≡ get_or v b 0 ∷ take k (drop (suc b) v)
-take_step v b k h = rw (drop-cons v b 0)
-
-pub eight_at_lem : (v : List ℕ) (b : ℕ) → b + 8 ≤ length v → eight_at v b ≡ take 8 (drop b v)
-eight_at_lem v b h =
-    let h0 : b < length v = omega arith in
-    let h1 : suc b < length v = omega arith in
-    let h2 : suc (suc b) < length v = omega arith in
-    let h3 : suc (suc (suc b)) < length v = omega arith in
-    let h4 : suc (suc (suc (suc b))) < length v = omega arith in
-    let h5 : suc (suc (suc (suc (suc b)))) < length v = omega arith in
-    let h6 : suc (suc (suc (suc (suc (suc b))))) < length v = omega arith in
-    let h7 : suc (suc (suc (suc (suc (suc (suc b)))))) < length v = omega arith in
-    simp towards_suc (rw (
-      take_step v b 7,
-      take_step v (suc b) 6,
-      take_step v (suc (suc b)) 5,
-      take_step v (suc (suc (suc b))) 4,
-      take_step v (suc (suc (suc (suc b)))) 3,
-      take_step v (suc (suc (suc (suc (suc b))))) 2,
-      take_step v (suc (suc (suc (suc (suc (suc b)))))) 1,
-      take_step v (suc (suc (suc (suc (suc (suc (suc b))))))) 0,
-    ))
-
--- a list of eight is its eight elements
-eight : (p : Packet) → length p ≡ 8 → eight_at p 0 ≡ p
-eight p h = eight_at_lem p 0 (omega arith) ∙ take_all 8 p (omega arith)
-
-pub stored_at_lem : (v : List ℕ) (b : ℕ) (p : Packet) → b + 8 ≤ length v → length p ≡ 8 → stored_at v b p ≡ take b v ++ p ++ drop (b + 8) v
-stored_at_lem v b p h e =
-    let a : stored_at v b p ≡ sets v b (eight_at p 0) = simp towards_suc in
-    a ∙ sets-eq (eight_at p 0) v b h ∙ rw (eight p)
-
--- ---- a row as two blocks of eight
-
--- the first eight values of x and the eight from c on, put at their places, are its first c + 8
-two_pasted : (w x : List ℕ) (a c : ℕ) → c ≤ 8 → a + (c + 8) ≤ length w → c + 8 ≤ length x
-    → paste (paste w a x 8) (a + c) (drop c x) 8 ≡ paste w a x (c + 8)
-two_pasted w x a c h l m =
-    let e : a + c + 8 ≡ a + 8 + c = omega arith in
-    let front : take (a + c) (paste w a x 8) ≡ take a w ++ take c x =
-    sym (take-take (a + c) (a + 8) (paste w a x 8) (omega arith))
-    ∙ ap (λ (z : List ℕ). take (a + c) z) (take-paste w a x 8 (omega arith) (omega arith))
-    ∙ cut in
-    let back : drop (a + c + 8) (paste w a x 8) ≡ drop (a + (c + 8)) w =
-    rw e (sym (drop-drop c (a + 8) (paste w a x 8)) ∙ ap (λ (z : List ℕ). drop c z) (drop-paste w a x 8 (omega arith) (omega arith))
-    ∙ drop-drop c (a + 8) w ∙ ap (λ (n : ℕ). drop n w) n8) in
-    rw (front, back, take-add c 8 x, append_assoc (take a w) (take c x) (take 8 (drop c x)))
-  where
-    n8 : a + 8 + c ≡ a + (c + 8)
-    n8 = omega arith
-
-    cut : take (a + c) (take a w ++ take 8 x) ≡ take a w ++ take c x
-    cut =
-        let f : length (take a w) ≡ a = length-take-le a w (omega arith) in
-        take-add a c (take a w ++ take 8 x)
-        ∙ rw (take_at (take a w) (take 8 x) a f, drop_at (take a w) (take 8 x) a f, take-take c 8 x h)
-
-pub laid_first : (w x : List ℕ) (a c : ℕ) (p : Blocks) → a + (c + 8) ≤ length w → Lifted p x c → stored_at w a p.lo ≡ paste w a x 8
-laid_first w x a c p l f =
-    let el : length p.lo ≡ 8 = ap length f.low ∙ length-take-le 8 x (omega (arith, f.long)) in
-    stored_at_lem w a p.lo (omega arith) el ∙ rw f.low
-
-pub laid : (w x : List ℕ) (a c : ℕ) (p : Blocks) → c ≤ 8 → a + (c + 8) ≤ length w → Lifted p x c
-    → stored_at (stored_at w a p.lo) (a + c) p.hi ≡ paste w a x (c + 8)
-laid w x a c p h l f =
-    let m : 8 ≤ length (drop c x) = simp length-drop (omega (arith, f.long)) in
-    let eh : length p.hi ≡ 8 = ap length f.high ∙ length-take-le 8 (drop c x) m in
-    let long : length (paste w a x 8) ≡ length w = length-paste w a x 8 (omega arith) (omega (arith, f.long)) in
-    ap (λ (z : List ℕ). stored_at z (a + c) p.hi) (laid_first w x a c p l f)
-    ∙ stored_at_lem (paste w a x 8) (a + c) p.hi (omega (arith, long)) eh
-    ∙ ap (λ (z : List ℕ). take (a + c) (paste w a x 8) ++ z ++ drop (a + c + 8) (paste w a x 8)) f.high
-    ∙ two_pasted w x a c h l f.long
 
 -- ---- the rows of an array
 
@@ -168,6 +95,18 @@ row_fits i r h = rw suc-mul at (mul-le-mul_right r h)
 pub row_small : (i r : ℕ) → i < 16 → r ≤ 16 → i * r ≤ 256
 row_small i r h l = omega (arith, row_fits i r h)
 
+-- the rows as the library cuts them
+cut_chunks : (r n : ℕ) (v : List ℕ) → first_chunks r n v ≡ chunks r n v
+unfolding chunks
+cut_chunks r zero v = refl
+cut_chunks r (suc n) v = ap (λ (s : Packets). take r v ∷ s) (cut_chunks r n (drop r v))
+
+pub sixteen : {r : ℕ} {v : List ℕ} → Array r v → length v / r ≡ 16
+sixteen {r} a = div-eq_of_eq-mul_left (omega (arith, a.least)) a.size
+
+pub cut_rows : {r : ℕ} {v : List ℕ} → Array r v → first_chunks r (length v / r) v ≡ rows_of r v
+cut_rows {r} {v} a = rw (sixteen a) (cut_chunks r 16 v)
+
 pub row_at : (r : ℕ) (v : List ℕ) (i : ℕ) → i < 16 → get_or (rows_of r v) i [] ≡ take r (drop (i * r) v)
 row_at r v i h = get_or_chunks r 16 i v h
 
@@ -188,27 +127,12 @@ stored {r} {w} k x w' a h m e =
       rows = ap (λ (y : List ℕ). rows_of r y) e ∙ chunks_paste r 16 k w x h l m;
     }
 
--- row j of v laid down at row k of w, and a row by itself
-pub stored_row : {r : ℕ} {w v : List ℕ} (k j a b : ℕ) (w' : List ℕ) → Array r w → Array r v → k < 16 → j < 16 → a ≡ k * r → b ≡ j * r
-    → w' ≡ paste w a (drop b v) (r - 8 + 8) → Stored r w' w k (get_or (rows_of r v) j [])
-stored_row {r} {w} {v} k j a b w' aw av hk hj ea eb e =
-    let n : r - 8 + 8 ≡ r = omega (arith, aw.least) in
-    let l : r ≤ length (drop (j * r) v) = simp length-drop (omega (arith, row_fits j r hj, av.size)) in
-    rw (row_at r v j hj) (stored k (drop (j * r) v) w' aw hk l (rw (n, ea, eb) at e))
-
-pub stored_given : {r : ℕ} {w : List ℕ} (k a : ℕ) (x w' : List ℕ) → Array r w → k < 16 → r ≤ length x → a ≡ k * r
-    → w' ≡ paste w a x (r - 8 + 8) → Stored r w' w k (take r x)
-stored_given {r} k a x w' aw hk l ea e =
-    let n : r - 8 + 8 ≡ r = omega (arith, aw.least) in
-    stored k x w' aw hk l (rw (n, ea) at e)
-
-pub row_alone : {r : ℕ} {v : List ℕ} (j b : ℕ) (t t' : List ℕ) → Array r v → j < 16 → b ≡ j * r → t' ≡ paste t 0 (drop b v) (r - 8 + 8)
-    → take r t' ≡ get_or (rows_of r v) j []
-row_alone {r} {v} j b t t' a h eb e =
-    let n : r - 8 + 8 ≡ r = omega (arith, a.least) in
-    let l : r ≤ length (drop (j * r) v) = simp length-drop (omega (arith, row_fits j r h, a.size)) in
-    let f : t' ≡ take r (drop (j * r) v) ++ drop (0 + r) t = rw (n, eb) at e in
-    rw (row_at r v j h) (ap (λ (z : List ℕ). take r z) f ∙ take_at (take r (drop (j * r) v)) (drop (0 + r) t) r (length-take-le r _ l))
+-- a row by itself put at row k
+pub stored_row : {r : ℕ} {w : List ℕ} (k : ℕ) (x w' : List ℕ) → Array r w → k < 16 → length x ≡ r → w' ≡ paste w (k * r) x r
+    → Stored r w' w k x
+stored_row {r} {w} k x w' a h l e =
+    let few : length x ≤ r = omega arith in
+    rw take_all at (stored k x w' a h (omega arith) e)
 
 pub take_zeros : (n m : ℕ) → n ≤ m → take n (replicate m 0) ≡ replicate {A = ℕ} n 0
 take_zeros zero m h = refl
@@ -227,12 +151,6 @@ chunks_zeros r (suc n) =
     rw (e, take_zeros r (r + n * r) (omega arith), drop_replicate {A = ℕ} r (n * r) 0, chunks_zeros r n)
 
 -- ---- one value
-
-pub value_in : (r : ℕ) (v : List ℕ) (i f : ℕ) → i < 16 → f < r → get_or (get_or (rows_of r v) i []) f 0 ≡ get_or v (i * r + f) 0
-value_in r v i f h l = rw (row_at r v i h, get_or-take, get_or-drop)
-
-pub value_out : {r : ℕ} {v : List ℕ} (i f : ℕ) → Array r v → i < 16 → r ≤ f → get_or (get_or (rows_of r v) i []) f 0 ≡ 0
-value_out {r} {v} i f a h l = get_or-eq_default (get_or (rows_of r v) i []) 0 {n = f} (omega (arith, length_row i a h))
 
 set_pasted : (v : List ℕ) (a f r x : ℕ) → f < r → set v (a + f) x ≡ paste v a (set (take r (drop a v)) f x) r
 set_pasted v a f r x h =
@@ -254,3 +172,8 @@ stored_value {r} {v} i f x a h l =
     let n : length (set (take r (drop (i * r) v)) f x) ≡ r = length-set (take r (drop (i * r) v)) f x ∙ rw e at (length_row i a h) in
     let s = stored i (set (take r (drop (i * r) v)) f x) (set v (i * r + f) x) a h (omega arith) (set_pasted v (i * r) f r x l) in
     rw (e, ← take_all r (set (take r (drop (i * r) v)) f x) (omega arith)) s
+
+-- what `get` lends, or 0
+pub got_or : (p : List ℕ) (f : ℕ) (r : Option (Bor ℕ)) → IsItemAt p f r → unwrap_or (option_copied r) 0 ≡ get_or p f 0
+got_or p f None h = sym (get_or-eq_default p 0 {n = f} (ltb-false f (length p) (sym h.0)))
+got_or p f (Some x) h = h.1 ∙ get_or_default_zero p f x.now (ltb-true f (length p) (sym h.0))

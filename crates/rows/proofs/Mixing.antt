@@ -1,13 +1,12 @@
 -- Rows mixed field by field.
-use Prim.Native.Nat.{ℕ, zero, suc, ◌+◌, ◌-◌, ◌≤◌, ◌<◌}
+use Prim.Native.Nat.{ℕ, zero, suc, ◌+◌, ◌≤◌, ◌<◌}
 use mathlib.Core.Path.{◌≡◌, refl, sym, ap₂, ◌∙◌}
 use mathlib.Core.Bool.{Bool, true, false, cond}
-use mathlib.Core.List.{List, ◌++◌, ◌∷◌, []}
+use mathlib.Core.List.{◌∷◌, []}
 use native.Mathlib.Omega.{arith}
-use lib.ListN.{length, take, drop, get_or, replicate, length-take, length-drop}
-use lib.Seq.{get_or-take, get_or-drop, take_all, take_at, paste}
-use Rattle.rows.specs.Arrays.{eight_at, mixed_by}
-use Rattle.rows.proofs.Chunks.{eight_at_lem}
+use native.Mathlib.Numerals.{add-one}
+use lib.ListN.{length, take, get_or, set, replicate, length-set}
+use lib.Seq.{take_all, take-suc, take-set-le, get_or-set_same}
 use Rattle.rules.specs.Masks.{has}
 use Rattle.rules.specs.Packets.{Packet, mix_from, mix, without}
 use Rattle.rules.proofs.PacketLaws.{length_mix, mix_on, mix_off}
@@ -19,51 +18,20 @@ mixed_at w p q f h = go (has w f) refl
     go true e = mix_on w p q f e h
     go false e = mix_off w p q f e
 
-pub eight_eq : {a0 a1 a2 a3 a4 a5 a6 a7 b0 b1 b2 b3 b4 b5 b6 b7 : ℕ}
-    → a0 ≡ b0 → a1 ≡ b1 → a2 ≡ b2 → a3 ≡ b3 → a4 ≡ b4 → a5 ≡ b5 → a6 ≡ b6 → a7 ≡ b7
-    → a0 ∷ a1 ∷ a2 ∷ a3 ∷ a4 ∷ a5 ∷ a6 ∷ a7 ∷ [] ≡ b0 ∷ b1 ∷ b2 ∷ b3 ∷ b4 ∷ b5 ∷ b6 ∷ b7 ∷ []
-eight_eq p0 p1 p2 p3 p4 p5 p6 p7 = λ i. p0 i ∷ p1 i ∷ p2 i ∷ p3 i ∷ p4 i ∷ p5 i ∷ p6 i ∷ p7 i ∷ []
+-- value f written, after those before it
+pub mixed_next : (w : ℕ) (p q t : Packet) (f x : ℕ) → f < length p → length t ≡ length p → x ≡ cond (has w f) (get_or q f 0) (get_or p f 0)
+    → take f t ≡ take f (mix w p q) → take (f + 1) (set t f x) ≡ take (f + 1) (mix w p q)
+mixed_next w p q t f x h l e k =
+    let m : f < length (set t f x) = rw length-set (omega arith) in
+    let n : f < length (mix w p q) = rw length_mix h in
+    let o : f < length t = omega arith in
+    rw (add-one, take-suc (set t f x) f 0 m, take-suc (mix w p q) f 0 n, take-set-le f t f x (omega arith), k, get_or-set_same t f x 0 o, e, mixed_at w p q f h) refl
 
--- field i of the mix, which p has at a' and q at b'
-field_of : (w : ℕ) (p q : List ℕ) (a b r i a' b' : ℕ) → i < r → a + r ≤ length p → b + r ≤ length q → a' ≡ a + i → b' ≡ b + i
-    → cond (has w i) (get_or q b' 0) (get_or p a' 0) ≡ get_or (mix w (take r (drop a p)) (take r (drop b q))) i 0
-field_of w p q a b r i a' b' h hp hq ea eb =
-    let P = take r (drop a p) in
-    let Q = take r (drop b q) in
-    let l : length P ≡ r = simp (length-take, length-drop) (omega arith) in
-    let x : get_or P i 0 ≡ get_or p (a + i) 0 = rw (get_or-take, get_or-drop) in
-    let y : get_or Q i 0 ≡ get_or q (b + i) 0 = rw (get_or-take, get_or-drop) in
-    sym (mixed_at w P Q i (omega arith) ∙ rw (x, y, ea, eb))
-
--- eight fields of the mix
-pub mixed_eight : (w : ℕ) (p q : List ℕ) (a b r c : ℕ) → c + 8 ≤ r → a + r ≤ length p → b + r ≤ length q
-    → mixed_by w c (eight_at p (a + c)) (eight_at q (b + c)) ≡ take 8 (drop c (mix w (take r (drop a p)) (take r (drop b q))))
-mixed_eight w p q a b r c h hp hq =
-    let M = mix w (take r (drop a p)) (take r (drop b q)) in
-    let l : length M ≡ r = length_mix w (take r (drop a p)) (take r (drop b q))
-    ∙ (let n : length (take r (drop a p)) ≡ r = simp (length-take, length-drop) (omega arith) in n) in
-    let f : (i a' b' : ℕ) → i < r → a' ≡ a + i → b' ≡ b + i → cond (has w i) (get_or q b' 0) (get_or p a' 0) ≡ get_or M i 0 =
-    λ i a' b' h ea eb. field_of w p q a b r i a' b' h hp hq ea eb in
-    eight_eq (f c (a + c) (b + c) (omega arith) refl refl)
-    (f (c + 1) (a + c + 1) (b + c + 1) (omega arith) (omega arith) (omega arith))
-    (f (c + 2) (a + c + 2) (b + c + 2) (omega arith) (omega arith) (omega arith))
-    (f (c + 3) (a + c + 3) (b + c + 3) (omega arith) (omega arith) (omega arith))
-    (f (c + 4) (a + c + 4) (b + c + 4) (omega arith) (omega arith) (omega arith))
-    (f (c + 5) (a + c + 5) (b + c + 5) (omega arith) (omega arith) (omega arith))
-    (f (c + 6) (a + c + 6) (b + c + 6) (omega arith) (omega arith) (omega arith))
-    (f (c + 7) (a + c + 7) (b + c + 7) (omega arith) (omega arith) (omega arith))
-    ∙ eight_at_lem M c (omega arith)
-
--- the row laid down by itself
-pub mixed_row : (r : ℕ) (x t t' : List ℕ) → 8 ≤ r → length x ≡ r → t' ≡ paste t 0 x (r - 8 + 8) → take r t' ≡ x
-mixed_row r x t t' h l e =
-    let n : r - 8 + 8 ≡ r = omega arith in
-    let m : length x ≤ r = omega arith in
-    let f : t' ≡ x ++ drop (0 + r) t = rw (n, take_all r x m) at e in
-    rw f (take_at x (drop (0 + r) t) r l)
-
-pub length_mixed : (w r a : ℕ) (p q : List ℕ) → a + r ≤ length p → length (mix w (take r (drop a p)) q) ≡ r
-length_mixed w r a p q h = length_mix w (take r (drop a p)) q ∙ simp (length-take, length-drop) (omega arith)
+pub mixed_end : (w : ℕ) (p q t : Packet) (f : ℕ) → length p ≤ f → length t ≡ length p → take f t ≡ take f (mix w p q) → t ≡ mix w p q
+mixed_end w p q t f h l k =
+    let m : length t ≤ f = omega arith in
+    let n : length (mix w p q) ≤ f = rw length_mix h in
+    sym (take_all f t m) ∙ k ∙ take_all f (mix w p q) n
 
 -- ---- zeros lack every field
 

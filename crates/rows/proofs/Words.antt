@@ -1,14 +1,16 @@
 -- The rows fix an array to the last word, and the values of rows written one row after the other.
-use Prim.Native.Nat.{ℕ, zero, suc, ◌+◌, ◌*◌, ◌-◌, ◌≤◌, ◌<◌}
+use Prim.Native.Nat.{ℕ, zero, suc, ◌+◌, ◌*◌, ◌-◌, ◌≤◌, ◌<◌, min}
 use mathlib.Core.Path.{◌≡◌, refl, sym, ap, ap₂, ◌∙◌}
 use mathlib.Core.Bool.{true, false}
 use mathlib.Core.List.{List, [], ◌∷◌, ◌++◌, append-nil, append_assoc}
 use native.Mathlib.Omega.{arith}
 use native.Mathlib.Numerals.{add-one}
-use native.Mathlib.Nat.{suc-mul, zero-mul, mul-le-mul_right, mul-le-mul}
+use native.Mathlib.Nat.{suc-mul, zero-mul}
 use borrow.Author.Tests.{le-leb, lt-leb}
 use lib.ListN.{length, take, drop, get_or, replicate, length-append, length-take, take-append-drop}
-use lib.Seq.{take_all, take_at, drop_at, drop-drop, take-add, take-suc, take-take, length-take-le, get_or-take, paste}
+use lib.Seq.{take_all, take_at, drop_at, drop-drop, take-add, take-suc, length-take-le, get_or-take}
+use native.Mathlib.Decide.{dec_lt}
+use borrow.Rule.Slice.PartMut.{put_mid}
 use Rattle.rules.specs.Packets.{Packet, Packets, values_of}
 use Rattle.rows.specs.Chunks.{chunks, rows_of, blank, Array, Held}
 use Rattle.rows.specs.Arrays.{Emitted}
@@ -55,8 +57,16 @@ row_short r n v i h =
     rw (get_or-take n (rows_of r v) i [] m.0, row_at r v i m.1) (simp length-take (omega arith))
 
 -- a row has r values
-pub values_all : (k r n : ℕ) (v : List ℕ) → r ≤ k → values_of r (take n (rows_of r v)) ≡ values_of k (take n (rows_of r v))
+values_all : (k r n : ℕ) (v : List ℕ) → r ≤ k → values_of r (take n (rows_of r v)) ≡ values_of k (take n (rows_of r v))
 values_all k r n v h = values_cut r k (take n (rows_of r v)) h (row_short r n v)
+
+-- so the first k of a row are its first k or all r
+pub values_min : (k r n : ℕ) (v : List ℕ) → values_of (min k r) (take n (rows_of r v)) ≡ values_of k (take n (rows_of r v))
+values_min k r n v =
+    elim (dec_lt k r) [
+      | yes l ↦ let e : min k r ≡ k = omega arith in rw e refl
+      | no l ↦ let e : min k r ≡ r = omega arith in rw e (values_all k r n v (omega arith))
+    ]
 
 values_snoc : (k : ℕ) (s : Packets) (x : Packet) → values_of k (s ++ x ∷ []) ≡ values_of k s ++ take k x
 unfolding values_of
@@ -77,28 +87,21 @@ values_long {r} {v} k n h l a =
     rw m at (length_values k S (λ i o.
     rw (get_or-take n (rows_of r v) i [] (omega arith)) (omega (arith, length_row i a (omega arith)))))
 
--- room for row i, where there is room for n
-pub room_next : (i n k : ℕ) → i < n → i * k + k ≤ n * k
-room_next i n k h = rw suc-mul at (mul-le-mul_right k h)
-
-pub room_small : (n k : ℕ) → n ≤ 16 → k ≤ 16 → n * k ≤ 256
-room_small n k h l = mul-le-mul h l
-
 -- row i written after those before it
-pub emit_next : {r : ℕ} {v : List ℕ} (k i at b : ℕ) (o : List ℕ) → k ≤ r → i < 16 → Array r v → at ≡ i * k → b ≡ i * r
-    → paste (values_of k (take i (rows_of r v)) ++ drop at o) at (drop b v) k ≡ values_of k (take (i + 1) (rows_of r v)) ++ drop (at + k) o
-emit_next {r} {v} k i at b o h l a e f =
-    let x = values_of k (take i (rows_of r v)) in
-    let n : length x ≡ at = values_long k i h (omega arith) a ∙ sym e in
-    let t : take at (x ++ drop at o) ≡ x = take_at x (drop at o) at n in
-    let d : drop (at + k) (x ++ drop at o) ≡ drop (at + k) o =
-    sym (drop-drop k at (x ++ drop at o)) ∙ rw (drop_at x (drop at o) at n) (drop-drop k at o) in
-    let y : take k (drop b v) ≡ take k (get_or (rows_of r v) i []) = rw (row_at r v i l, f) (sym (take-take k r (drop (i * r) v) h)) in
+pub emit_next : {r : ℕ} {v : List ℕ} (k i : ℕ) (o p x : List ℕ) → k ≤ r → i < 16 → Array r v
+    → p ≡ values_of k (take i (rows_of r v)) ++ drop (i * k) o → x ≡ take k (get_or (rows_of r v) i [])
+    → put_mid (i * k) (i * k + k - i * k) p x ≡ values_of k (take (i + 1) (rows_of r v)) ++ drop ((i + 1) * k) o
+emit_next {r} {v} k i o p x h l a e f =
+    let at = i * k in
+    let y = values_of k (take i (rows_of r v)) in
+    let n : length y ≡ at = values_long k i h (omega arith) a in
+    let m : at + k - at ≡ k = omega arith in
+    let z : (i + 1) * k ≡ at + k = omega (arith, ap (λ (j : ℕ). j * k) (add-one i), suc-mul i k) in
     let s : take (i + 1) (rows_of r v) ≡ take i (rows_of r v) ++ get_or (rows_of r v) i [] ∷ [] =
     rw add-one (take-suc (rows_of r v) i [] (omega (arith, length_rows_lem r v))) in
-    let w : values_of k (take (i + 1) (rows_of r v)) ≡ x ++ take k (drop b v) =
-    rw (s, y) (values_snoc k (take i (rows_of r v)) (get_or (rows_of r v) i [])) in
-    rw (t, d, w)
+    let w : values_of k (take (i + 1) (rows_of r v)) ≡ y ++ x = rw (s, f) (values_snoc k (take i (rows_of r v)) (get_or (rows_of r v) i [])) in
+    rw (e, m, take_at y (drop at o) at n, drop_at y (drop at o) at n, drop-drop k at o, z, w)
+    (sym (append_assoc y x (drop (at + k) o)))
 
 -- ---- the answer, where c is as many values as are written of a row
 

@@ -19,7 +19,7 @@ blank r = replicate r 0
 abbrev pub widest : ℕ
 widest = 16
 
--- an array of sixteen rows of r values, four or eight of which are moved or compared at once; narrow books have r 8, wide ones r 16
+-- an array of sixteen rows of r values; narrow books have r 8, wide ones r 16
 pub record Array (r : ℕ) (v : List ℕ) : Type 0 where
   pub least : 8 ≤ r
   pub most : r ≤ widest

@@ -6,6 +6,38 @@ ghost use Rattle.std.specs.Prelude.{◌≡◌};
 ghost use Rattle.rules.specs.Codes.{shape_at};
 ghost use Rattle.rules.specs.Checks.{no_place, number_of};
 
+// The nine codes.
+pub const ID: u8 = 0;
+
+pub const DROP: u8 = 1;
+
+pub const TEST: u8 = 2;
+
+pub const SET: u8 = 3;
+
+pub const NOT: u8 = 4;
+
+pub const SUM: u8 = 5;
+
+pub const SEQUENCE: u8 = 6;
+
+pub const BESIDE: u8 = 7;
+
+pub const TABLE: u8 = 8;
+
+// The limits: a book's bytes, fields and tables, the depth within a body, and the parts and concurrent parts of number 6.
+pub const MOST_BYTES: usize = 4096;
+
+pub const MOST_FIELDS: u8 = 8;
+
+pub const MOST_TABLES: u8 = 15;
+
+pub const MOST_DEPTH: usize = 32;
+
+pub const MOST_PARTS: usize = 1023;
+
+pub const MOST_BESIDE: usize = 4;
+
 // Operand bytes of a code, and how many parts stand below it.
 #[derive(Clone, Copy, Debug, PartialEq, Eq)]
 pub struct Shape {

@@ -8,6 +8,7 @@ use native.Mathlib.Decide.{dec_lt}
 use lib.ListN.{length, take, drop, get_or, set, replicate, length-append, length-take, take-append-drop}
 use lib.Seq.{slice, length-slice, drop-cons, take_at, drop_at, drop-drop, take-take, take-suc, take-set-le, get_or-take, get_or-drop}
 use lib.Seq.{set_out}
+use Rattle.std.specs.declared.cmp.Ordering.TheVariants.{Less, Equal, Greater}
 use Rattle.rules.specs.Packets.{Packet, Packets, order_of, Before, AllAfter, Ascending, put, insert, union, gathered}
 use Rattle.rules.proofs.Orders.{order_refl, order_same, order_turned, before_trans, after_trans}
 use Rattle.rules.proofs.Sets.{insert_ascending, length_insert_le, length_insert_more, length_union_le, gathered_same}
@@ -16,8 +17,7 @@ use Rattle.rows.proofs.Chunks.{length_rows_lem, length_row, drop_replicate}
 use Rattle.rows.proofs.Clearing.{trimmed}
 use Rattle.rows.proofs.Holding.{length_packets, held_self, held_as}
 use Rattle.std.specs.Prelude.{Option, Some, None, IsSome}
-use Rattle.std.specs.declared.cmp.Ordering.TheVariants.{Less, Equal, Greater}
-use Rattle.sets.specs.Lists.{Placed, Shifted, Put, Inserted, Changed, Zeroed}
+use Rattle.sets.specs.Lists.{Placed, Raised, Put, Inserted, Changed, Zeroed}
 use Rattle.sets.proofs.Rows.{set_take, set_drop, set_from, slice_at, slice_end}
 
 -- ---- where a packet goes in an ascending list
@@ -75,39 +75,9 @@ pub placed_start : (R : Packets) (p : Packet) (k : ℕ) → insert p (drop k (ta
 unfolding insert
 placed_start R p k = rw (slice_end R k k (omega arith))
 
--- ---- rows moved up one by one, from the last on
-
-pub shifted_start : {r : ℕ} {w : List ℕ} (k : ℕ) → Array r w → Shifted r w w k k
-shifted_start {r} {w} k a = record { array = a; low = refl; high = rw (slice_end (rows_of r w) k k (omega arith)) }
-
-pub shifted_next : {r : ℕ} {w' w w₀ : List ℕ} (j b k : ℕ) → j ≡ b + 1 → j ≤ k → k < 16 → Shifted r w w₀ j k
-    → Stored r w' w j (get_or (rows_of r w) b []) → Shifted r w' w₀ b k
-shifted_next {r} {w'} {w} {w₀} j b k e h f a s =
-    let R = rows_of r w in
-    let R₀ = rows_of r w₀ in
-    let d : b + 1 ≤ j + 1 = omega arith in
-    let low : take (b + 1) R ≡ take (b + 1) R₀ =
-    sym (take-take (b + 1) (j + 1) R d) ∙ ap (λ (z : Packets). take (b + 1) z) a.low ∙ take-take (b + 1) (j + 1) R₀ d in
-    let x : get_or R b [] ≡ get_or R₀ b [] =
-    sym (get_or-take (b + 1) R b [] (omega arith)) ∙ ap (λ (z : Packets). get_or z b []) low ∙ get_or-take (b + 1) R₀ b [] (omega arith) in
-    record {
-      array = s.array;
-      low = rw s.rows (take-set-le (b + 1) R j (get_or R b []) (omega arith) ∙ low);
-      high =
-          rw (
-            s.rows,
-            ← e,
-            set_from R j (get_or R b []) (omega (arith, length_rows_lem r w)),
-            a.high,
-            x,
-            slice_at R₀ b k (omega arith) (omega (arith, length_rows_lem r w₀)),
-            ← e,
-          );
-    }
-
 -- ---- a packet put in the gap
 
-module _ {r : ℕ} {w' w w₀ : List ℕ} (p : Packet) (i k : ℕ) (h : i ≤ k) (f : k < 16) (a : Shifted r w w₀ i k) (s : Stored r w' w i p) where
+module _ {r : ℕ} {w' w w₀ : List ℕ} (p : Packet) (i k : ℕ) (h : i ≤ k) (f : k < 16) (a : Raised r w w₀ i k 1) (s : Stored r w' w i p) where
   abbrev front : Packets
   front = take i (take k (rows_of r w₀)) ++ p ∷ slice i k (rows_of r w₀)
 
@@ -309,23 +279,18 @@ none_put {r} {v} {n} f x h q =
 
 -- ---- rows found to ascend from the last on
 
-pub ascends_last : (R : Packets) (n : ℕ) → 1 ≤ n → n ≤ length R → Ascending (slice (n - 1) n R)
-ascends_last R n h l =
-    let e : n - 1 + 1 ≡ n = omega arith in
-    rw (slice_at R (n - 1) n (omega arith) l, e, slice_end R n n (omega arith)) (tt, tt)
+pub ascends_last : (R : Packets) (n : ℕ) → n ≤ length R → Ascending (slice (n - 1) n R)
+ascends_last R zero l = tt
+ascends_last R (suc n) l =
+    let z : suc n - 1 ≡ n = omega arith in
+    let e : n + 1 ≡ suc n = omega arith in
+    rw (z, slice_at R n (suc n) (omega arith) l, e, slice_end R (suc n) (suc n) (omega arith)) (tt, tt)
 
 pub ascends_next : (R : Packets) (n i : ℕ) → 1 < i → i ≤ n → n ≤ length R → Ascending (slice (i - 1) n R)
-    → order_of (get_or R (i - 2) []) (get_or R (i - 1) []) ≡ Less → Ascending (slice (i - 1 - 1) n R)
+    → order_of (get_or R (i - 1 - 1) []) (get_or R (i - 1) []) ≡ Less → Ascending (slice (i - 1 - 1) n R)
 ascends_next R n i h l m a e =
-    let d : i - 1 - 1 ≡ i - 2 = omega arith in
-    let f : i - 2 + 1 ≡ i - 1 = omega arith in
+    let f : i - 1 - 1 + 1 ≡ i - 1 = omega arith in
     let u = slice_at R (i - 1) n (omega arith) m in
     let b = rw u at a in
-    rw (d, slice_at R (i - 2) n (omega arith) m, f, u)
-    ((e, after_trans (get_or R (i - 2) []) (get_or R (i - 1) []) (slice (i - 1 + 1) n R) e b.0), b)
-
-pub ascends_short : (R : Packets) (n : ℕ) → n < 2 → Ascending (take n R)
-ascends_short R zero h = tt
-ascends_short [] (suc zero) h = tt
-ascends_short (x ∷ R) (suc zero) h = (tt, tt)
-ascends_short R (suc (suc n)) h = absurd (omega arith)
+    rw (slice_at R (i - 1 - 1) n (omega arith) m, f, u)
+    ((e, after_trans (get_or R (i - 1 - 1) []) (get_or R (i - 1) []) (slice (i - 1 + 1) n R) e b.0), b)

@@ -37,45 +37,32 @@ module _ (y : Packet) (t : Packets) (ht : Ascending (y ∷ t)) where
 
 -- ---- rows raised, from the last on
 
--- rows j to n - 1 of w₀ are h places up in w, and those before them are as they were
-pub record Raising (r : ℕ) (w w₀ : List ℕ) (j n h : ℕ) : Type 0 where
-  pub array : Array r w
-  pub low : take j (rows_of r w) ≡ take j (rows_of r w₀)
-  pub high : drop (h + j) (rows_of r w) ≡ slice j n (rows_of r w₀) ++ drop (h + n) (rows_of r w₀)
-
-pub raising_start : {r : ℕ} {v : List ℕ} (n h : ℕ) → Array r v → Raising r v v n n h
-raising_start {r} {v} n h a = record { array = a; low = refl; high = rw (slice_end (rows_of r v) n n (omega arith)) }
-
-pub raising_next : {r : ℕ} {w' w w₀ : List ℕ} (j b n h : ℕ) → j ≡ b + 1 → j ≤ n → h + n ≤ 16 → Raising r w w₀ j n h
-    → Stored r w' w (h + b) (get_or (rows_of r w) b []) → Raising r w' w₀ b n h
-raising_next {r} {w'} {w} {w₀} j b n h e l m a s =
+pub raised_next : {r : ℕ} {w' w w₀ : List ℕ} (j b n h : ℕ) → j ≡ b + 1 → j ≤ n → n + h ≤ 16 → Raised r w w₀ j n h
+    → Stored r w' w (b + h) (get_or (rows_of r w) b []) → Raised r w' w₀ b n h
+raised_next {r} {w'} {w} {w₀} j b n h e l m a s =
     let R = rows_of r w in
     let R₀ = rows_of r w₀ in
-    let low : take (b + 1) R ≡ take (b + 1) R₀ = rw e at a.low in
-    let d : b ≤ b + 1 = omega arith in
+    let d : b + h ≤ j + h = omega arith in
+    let low : take (b + h) R ≡ take (b + h) R₀ =
+    sym (take-take (b + h) (j + h) R d) ∙ ap (λ (z : Packets). take (b + h) z) a.low ∙ take-take (b + h) (j + h) R₀ d in
     let x : get_or R b [] ≡ get_or R₀ b [] =
-    sym (get_or-take (b + 1) R b [] (omega arith)) ∙ ap (λ (z : Packets). get_or z b []) low ∙ get_or-take (b + 1) R₀ b [] (omega arith) in
-    let n1 : h + b + 1 ≡ h + j = omega arith in
-    let in_R : h + b < length R = omega (arith, length_rows_lem r w) in
+    sym (get_or-take (j + h) R b [] (omega arith)) ∙ ap (λ (z : Packets). get_or z b []) a.low ∙ get_or-take (j + h) R₀ b [] (omega arith) in
+    let n1 : b + h + 1 ≡ j + h = omega arith in
+    let in_R : b + h < length R = omega (arith, length_rows_lem r w) in
     record {
       array = s.array;
-      low = rw s.rows (take-set-le b R (h + b) (get_or R b []) (omega arith)
-          ∙ sym (take-take b (b + 1) R d) ∙ ap (λ (z : Packets). take b z) low ∙ take-take b (b + 1) R₀ d);
-      high = rw (
-        s.rows,
-        set_from R (h + b) (get_or R b []) in_R,
-        n1,
-        a.high,
-        x,
-        slice_at R₀ b n (omega arith) (omega (arith, length_rows_lem r w₀)),
-        ← e,
-      );
+      low = rw s.rows (take-set-le (b + h) R (b + h) (get_or R b []) (omega arith) ∙ low);
+      high =
+          rw (
+            s.rows,
+            set_from R (b + h) (get_or R b []) in_R,
+            n1,
+            a.high,
+            x,
+            slice_at R₀ b n (omega arith) (omega (arith, length_rows_lem r w₀)),
+            ← e,
+          );
     }
-
-pub raised : {r : ℕ} {w w₀ : List ℕ} {j n h : ℕ} → j ≡ 0 → Raising r w w₀ j n h → Raised r w w₀ n h
-raised {r} {w} {w₀} {j} {n} {h} e a =
-    let z : h + 0 ≡ h = omega arith in
-    record { array = a.array; rows = rw (e, z) at a.high }
 
 cut : (R : Packets) (h n : ℕ) → drop h (take h R ++ take n (drop h R)) ≡ take n (drop h R)
 cut R zero n = refl
@@ -86,15 +73,18 @@ slice_drop : (R : Packets) (h n : ℕ) → slice h (h + n) R ≡ take n (drop h 
 slice_drop R h n = ap (λ (y : Packets). drop h y) (take-add h n R) ∙ cut R h n
 
 -- a set raised has its packets from row h to row e
-pub raised_apart : {r : ℕ} {w w₀ : List ℕ} (n m h e : ℕ) → e ≡ h + n → e ≤ 16 → (e < 16 → e ≡ n + m) → Packed r w₀ n → Raised r w w₀ n h
+pub raised_apart : {r : ℕ} {w w₀ : List ℕ} (n m h e : ℕ) → e ≡ h + n → e ≤ 16 → (e < 16 → e ≡ n + m) → Packed r w₀ n → Raised r w w₀ 0 n h
     → Apart r w h e m × (slice h e (rows_of r w) ≡ take n (rows_of r w₀))
 raised_apart {r} {w} {w₀} n m h e d l f q a =
     let R₀ = rows_of r w₀ in
     let k : length (take n R₀) ≡ n = length-take-le n R₀ (omega (arith, length_rows_lem r w₀)) in
+    let z : 0 + h ≡ h = omega arith in
+    let c : n + h ≡ h + n = omega arith in
+    let high : drop h (rows_of r w) ≡ take n R₀ ++ drop (h + n) R₀ = rw (z, c) at a.high in
     let s : slice h (h + n) (rows_of r w) ≡ take n R₀ =
-    slice_drop (rows_of r w) h n ∙ rw a.rows (take_at (take n R₀) (drop (h + n) R₀) n k) in
+    slice_drop (rows_of r w) h n ∙ rw high (take_at (take n R₀) (drop (h + n) R₀) n k) in
     let t : drop (h + n) (rows_of r w) ≡ drop (h + n) R₀ =
-    sym (drop-drop n h (rows_of r w)) ∙ rw a.rows (drop_at (take n R₀) (drop (h + n) R₀) n k) in
+    sym (drop-drop n h (rows_of r w)) ∙ rw high (drop_at (take n R₀) (drop (h + n) R₀) n k) in
     let u : drop (h + n) R₀ ≡ replicate (16 - (h + n)) (blank r) =
     let n1 : h + n ≡ n + h = omega arith in
     let n2 : 16 - n ≡ h + (16 - (h + n)) = omega arith in

@@ -11,12 +11,6 @@ abbrev pub Placed : Packet → Packets → Option ℕ → Type 0
 Placed p s (Some i) = (i ≤ length s) × (insert p s ≡ take i s ++ p ∷ drop i s)
 Placed p s None = insert p s ≡ s
 
--- w is w₀ with rows i to k - 1 one place up; row i is as it was
-pub record Shifted (r : ℕ) (w w₀ : List ℕ) (i k : ℕ) : Type 0 where
-  pub array : Array r w
-  pub low : take (i + 1) (rows_of r w) ≡ take (i + 1) (rows_of r w₀)
-  pub high : drop (i + 1) (rows_of r w) ≡ slice i k (rows_of r w₀) ++ drop (k + 1) (rows_of r w₀)
-
 -- w has the first k rows of w₀ with p in its place, n of them, and the rows after row k as they were
 pub record Put (r : ℕ) (w w₀ : List ℕ) (k : ℕ) (p : Packet) (n : ℕ) : Type 0 where
   pub array : Array r w
@@ -48,10 +42,11 @@ pub record Zeroed (r : ℕ) (v : List ℕ) (n : ℕ) : Type 0 where
   pub room : n ≤ most_packets
   pub zeros : drop n (rows_of r v) ≡ replicate (most_packets - n) (blank r)
 
--- w is w₀ with its first n rows h places up
-pub record Raised (r : ℕ) (w w₀ : List ℕ) (n h : ℕ) : Type 0 where
+-- w is w₀ with rows i to n - 1 h places up; those below row i + h are as they were
+pub record Raised (r : ℕ) (w w₀ : List ℕ) (i n h : ℕ) : Type 0 where
   pub array : Array r w
-  pub rows : drop h (rows_of r w) ≡ take n (rows_of r w₀) ++ drop (h + n) (rows_of r w₀)
+  pub low : take (i + h) (rows_of r w) ≡ take (i + h) (rows_of r w₀)
+  pub high : drop (i + h) (rows_of r w) ≡ slice i n (rows_of r w₀) ++ drop (n + h) (rows_of r w₀)
 
 -- w is w₀ with rows i to e - 1 moved down to row k, and zeros up to e; they end at c
 pub record Lowered (r : ℕ) (w w₀ : List ℕ) (k i e c : ℕ) : Type 0 where

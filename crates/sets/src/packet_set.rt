@@ -7,13 +7,16 @@ ghost use Rattle.rules.specs.Packets.{places};
 ghost use Rattle.rows.specs.Chunks.{Packed};
 ghost use Rattle.sets.specs.Packing.{Packed-prop};
 
-use rows::{MOST, Row};
+use rows::MOST;
 use rules::Reason;
 
 // The places of a row, and the words of sixteen rows.
 pub const PLACES: usize = 8;
 
 const WORDS: usize = MOST * PLACES;
+
+// A packet's row by itself.
+pub type Row = [u16; PLACES];
 
 pub type Values = [u16; WORDS];
 
@@ -39,7 +42,7 @@ fn all_fields(k: usize) -> u8
 }
 
 impl PacketSet {
-    ghost use Rattle.std.specs.Prelude.{[], ◌∷◌, map, length, take, get_or, ◌<◌, OnOk, OnErr};
+    ghost use Rattle.std.specs.Prelude.{[], ◌∷◌, map, length, get_or, ◌<◌, OnOk, OnErr};
     ghost use Rattle.rules.specs.Masks.{less};
     ghost use Rattle.rules.specs.Packets.{most_packets, padded, passes, put, keep, gathered, lacks, union, pairs, without, values_of};
     ghost use Rattle.rows.specs.Arrays.{Emitted};
@@ -62,7 +65,7 @@ impl PacketSet {
         ensures { Is result (all_fields (length packet.now)) (padded packet.now ∷ []) }
     {
         let mut values = [0u16; WORDS];
-        rows::put_row(&mut values, 0, &rows::padded(packet), PLACES);
+        rows::put_row(&mut values, 0, &rows::padded(packet));
         PacketSet {
             values,
             count: 1,
@@ -72,11 +75,11 @@ impl PacketSet {
 
     // The set of one packet, a row by itself, without the fields of w.
     pub fn alone(row: &Row, w: u8, mask: u8) -> PacketSet
-        ensures { Is result (less mask w) (without w (take places row.now) ∷ []) }
+        ensures { Is result (less mask w) (without w row.now ∷ []) }
     {
-        let bare = rows::bare_row(u16::from(w), row, PLACES);
+        let bare = rows::bare(u16::from(w), row);
         let mut values = [0u16; WORDS];
-        rows::put_row(&mut values, 0, &bare, PLACES);
+        rows::put_row(&mut values, 0, &bare);
         PacketSet {
             values,
             count: 1,
@@ -89,7 +92,7 @@ impl PacketSet {
         ensures { Is result self.now.mask (packets self.now) }
     {
         let mut values = [0u16; WORDS];
-        rows::copy_rows(&mut values, &self.values, self.count, PLACES);
+        rows::copy_rows::<PLACES>(&mut values, &self.values, self.count);
         PacketSet {
             values,
             count: self.count,
@@ -100,22 +103,22 @@ impl PacketSet {
     // Packet i, a row by itself.
     pub fn packet(&self, i: usize) -> Row
         requires { i < self.now.count }
-        ensures { take places result ≡ get_or (packets self.now) i [] }
+        ensures { result ≡ get_or (packets self.now) i [] }
     {
-        rows::row(&self.values, i, PLACES)
+        *rows::row(&self.values, i)
     }
 
     // The first k values of each packet, one packet after the other, at the front of a lent slice, if they fit there.
     pub fn emit(&self, k: usize, out: &mut [u16]) -> bool
         ensures { Emitted result (values_of k (packets self.now)) out.old out.new }
     {
-        rows::emit_rows(&self.values, self.count, k, PLACES, out)
+        rows::emit_rows::<PLACES>(&self.values, self.count, k, out)
     }
 
     pub fn clear(&mut self)
         ensures { Is self.new self.old.mask [] }
     {
-        rows::clear_rows(&mut self.values, 0, self.count, PLACES);
+        rows::clear_rows::<PLACES>(&mut self.values, 0, self.count);
         self.count = 0;
     }
 
@@ -123,26 +126,25 @@ impl PacketSet {
     pub fn keep(&mut self, f: u8, x: u16)
         ensures { Is self.new self.old.mask (keep (passes f x) (packets self.old)) }
     {
-        self.count = crate::keep_in(&mut self.values, self.count, usize::from(f), x, PLACES);
+        self.count = crate::keep_in::<PLACES>(&mut self.values, self.count, usize::from(f), x);
     }
 
     // The packets with a field set; what becomes equal is one.
     pub fn set(&mut self, f: u8, x: u16)
         ensures { Is self.new self.old.mask (gathered (map (put f x) (packets self.old))) }
     {
-        self.count = crate::set_in(&mut self.values, self.count, usize::from(f), x, PLACES);
+        self.count = crate::set_in::<PLACES>(&mut self.values, self.count, usize::from(f), x);
     }
 
     // Only the packets that are not in the other.
     pub fn remove(&mut self, other: &PacketSet)
         ensures { Is self.new self.old.mask (keep (lacks (packets other.now)) (packets self.old)) }
     {
-        self.count = crate::difference_in(
+        self.count = crate::difference_in::<PLACES>(
             &mut self.values,
             self.count,
             &other.values,
             other.count,
-            PLACES,
         );
     }
 
@@ -151,12 +153,11 @@ impl PacketSet {
         ensures joined { OnOk result (Is self.new self.old.mask (union (packets self.old) (packets other.now))) }
         ensures wide { OnErr result (most_packets < length (union (packets self.old) (packets other.now))) }
     {
-        let joined = crate::union_in(
+        let joined = crate::union_in::<PLACES>(
             &mut self.values,
             self.count,
             &other.values,
             other.count,
-            PLACES,
         );
         let Some(count) = joined else {
             self.count = 0;
@@ -172,14 +173,13 @@ impl PacketSet {
         ensures paired { OnOk result (Is self.new self.old.mask (pairs w (packets left.now) (packets right.now))) }
         ensures wide { OnErr result (most_packets < length (pairs w (packets left.now) (packets right.now))) }
     {
-        let paired = crate::pairs_into(
+        let paired = crate::pairs_into::<PLACES>(
             &mut self.values,
             &left.values,
             left.count,
             &right.values,
             right.count,
             u16::from(w),
-            PLACES,
         );
         let Some(count) = paired else {
             self.count = 0;

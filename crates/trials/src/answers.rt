@@ -1,4 +1,4 @@
-// Each answer in six numbers, and comparing.
+// Each answer in six numbers, and comparing. Counts are cast: no From makes a u64 of a usize.
 ghost use Rattle.std.specs.Prelude.{◌≡◌};
 ghost use Rattle.rules.specs.Answers.{refusal_says, verdict_says, evaluated_says, ran_says};
 ghost use Rattle.trials.specs.Agreement.{numbers_of, left};
@@ -6,13 +6,14 @@ ghost use Rattle.trials.specs.Agreement.{numbers_of, left};
 use crate::vectors::from;
 use rules::{Outcome, Ran, Refusal, Sizes};
 
+#[tactic(auto, unfolding(crate::specs::Agreement::numbers_of, rules::specs::Answers::refusal_says))]
 fn refusal_numbers(r: Refusal) -> [u64; 6]
     ensures { result ≡ numbers_of (refusal_says r) }
 {
-    let number = r.number() as u64;
-    [0, number, r.place as u64, 0, 0, 0]
+    [0, r.number() as u64, r.place as u64, 0, 0, 0]
 }
 
+#[tactic(auto, unfolding(crate::specs::Agreement::numbers_of, rules::specs::Answers::verdict_says))]
 pub fn verdict_numbers(v: Result<Sizes, Refusal>) -> [u64; 6]
     ensures { result ≡ numbers_of (verdict_says v) }
 {
@@ -29,6 +30,7 @@ pub fn verdict_numbers(v: Result<Sizes, Refusal>) -> [u64; 6]
     }
 }
 
+#[tactic(auto, unfolding(crate::specs::Agreement::numbers_of, rules::specs::Answers::evaluated_says))]
 pub fn evaluated_numbers(e: Result<Outcome, Refusal>) -> [u64; 6]
     ensures { result ≡ numbers_of (evaluated_says e) }
 {
@@ -45,14 +47,13 @@ pub fn evaluated_numbers(e: Result<Outcome, Refusal>) -> [u64; 6]
     }
 }
 
+#[tactic(auto, unfolding(crate::specs::Agreement::numbers_of, rules::specs::Answers::ran_says))]
 pub fn ran_numbers(a: Result<Ran, Refusal>) -> [u64; 6]
     ensures { result ≡ numbers_of (ran_says a) }
 {
     match a {
-        Ok(ran) => match ran {
-            Ran::Finished(f) => [1, f.steps as u64, f.count as u64, 0, 0, 0],
-            Ran::Running(p) => [2, p.steps as u64, p.live as u64, p.ready as u64, 0, 0],
-        },
+        Ok(Ran::Finished(f)) => [1, f.steps as u64, f.count as u64, 0, 0, 0],
+        Ok(Ran::Running(p)) => [2, p.steps as u64, p.live as u64, p.ready as u64, 0, 0],
         Err(r) => refusal_numbers(r),
     }
 }

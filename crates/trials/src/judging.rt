@@ -8,49 +8,70 @@ use crate::answers::{evaluated_numbers, left_as, ran_numbers, verdict_numbers};
 use crate::vectors::{Call, MOST_WORDS, Words, from, front, marked, numbers_at, word_at, words_of};
 use rules::{Outcome, Ran, Refusal};
 
+// Where the lengths and the seed stand in the head of a vector, and where its book begins.
+const BOOK_BYTES: usize = 0;
+
+const PACKET_WORDS: usize = 2;
+
+const SCHEDULE_BYTES: usize = 4;
+
+const RESULT_WORDS: usize = 6;
+
+const WORK_WORDS: usize = 8;
+
+const SEED: usize = 10;
+
+const GIVEN_WORDS: usize = 12;
+
+const RAN_WORDS: usize = 14;
+
+const ZERO_WORDS: usize = 16;
+
+const BOOK_PLACE: usize = 90;
+
 #[tactic(auto, unfolding(crate::specs::Vectors::book_of))]
 fn book_of(v: &[u8]) -> &[u8]
     ensures { result.now ≡ book_of v.now }
 {
-    front(from(v, 90), word_at(v, 0))
+    front(from(v, BOOK_PLACE), word_at(v, BOOK_BYTES))
 }
 
 fn packet_place(v: &[u8]) -> usize
     ensures { (result ≡ packet_place v.now) × (result ≤ 65625) }
 {
-    90 + word_at(v, 0)
+    BOOK_PLACE + word_at(v, BOOK_BYTES)
 }
 
 fn schedule_place(v: &[u8]) -> usize
     ensures { (result ≡ schedule_place v.now) × (result ≤ 196695) }
 {
-    packet_place(v) + 2 * word_at(v, 2)
+    packet_place(v) + 2 * word_at(v, PACKET_WORDS)
 }
 
 fn given_place(v: &[u8]) -> usize
     ensures { (result ≡ given_place v.now) × (result ≤ 262230) }
 {
-    schedule_place(v) + word_at(v, 4)
+    schedule_place(v) + word_at(v, SCHEDULE_BYTES)
 }
 
 fn ran_place(v: &[u8]) -> usize
     ensures { (result ≡ ran_place v.now) × (result ≤ 393300) }
 {
-    given_place(v) + 2 * word_at(v, 12)
+    given_place(v) + 2 * word_at(v, GIVEN_WORDS)
 }
 
 #[tactic(auto, unfolding(crate::specs::Vectors::packet_of))]
 fn packet_of(v: &[u8]) -> Words
     ensures { result.items ≡ packet_of v.now }
 {
-    words_of(from(v, packet_place(v)), word_at(v, 2))
+    words_of(from(v, packet_place(v)), word_at(v, PACKET_WORDS))
 }
 
 #[tactic(auto, unfolding(crate::specs::Vectors::schedule_of))]
 fn schedule_of(v: &[u8]) -> &[u8]
     ensures { result.now ≡ schedule_of v.now }
 {
-    front(from(v, schedule_place(v)), word_at(v, 4))
+    front(from(v, schedule_place(v)), word_at(v, SCHEDULE_BYTES))
 }
 
 // The packets that `evaluate` is to leave; then those of `run`.
@@ -58,14 +79,14 @@ fn schedule_of(v: &[u8]) -> &[u8]
 fn given_of(v: &[u8]) -> Words
     ensures { result.items ≡ given_of v.now }
 {
-    words_of(from(v, given_place(v)), word_at(v, 12))
+    words_of(from(v, given_place(v)), word_at(v, GIVEN_WORDS))
 }
 
 #[tactic(auto, unfolding(crate::specs::Vectors::ran_of))]
 fn ran_of(v: &[u8]) -> Words
     ensures { result.items ≡ ran_of v.now }
 {
-    words_of(from(v, ran_place(v)), word_at(v, 14))
+    words_of(from(v, ran_place(v)), word_at(v, RAN_WORDS))
 }
 
 #[tactic(auto, unfolding(crate::specs::Agreement::accept_agrees))]
@@ -111,7 +132,7 @@ fn work_left(v: &[u8], after: &[u16], before: &[u16]) -> bool
     ensures { result ≡ left after.now (replicate (zero_words v.now) 0) before.now }
 {
     let zeros = [0u16; MOST_WORDS];
-    left_as(after, &zeros[..word_at(v, 16)], before)
+    left_as(after, &zeros[..word_at(v, ZERO_WORDS)], before)
 }
 
 #[tactic(auto, unfolding(crate::specs::Agreement::run_agrees))]
@@ -130,8 +151,8 @@ fn run_agrees(v: &[u8], res: &mut [u16], work: &mut [u16], before: &[u16], idle:
 fn evaluate_marked(v: &[u8]) -> bool
     ensures { result ≡ evaluate_agrees v.now (result_lent v.now) }
 {
-    let before = marked(word_at(v, 10));
-    let n = word_at(v, 6);
+    let before = marked(word_at(v, SEED));
+    let n = word_at(v, RESULT_WORDS);
     let mut result = before;
     evaluate_agrees(v, &mut result[..n], &before[..n])
 }
@@ -141,10 +162,9 @@ fn evaluate_marked(v: &[u8]) -> bool
 fn run_marked(v: &[u8]) -> bool
     ensures { result ≡ run_agrees v.now (result_lent v.now) (work_lent v.now) }
 {
-    let before = marked(word_at(v, 10));
-    let n = word_at(v, 6);
-    let m = word_at(v, 8);
-    let idle = before;
+    let before = marked(word_at(v, SEED));
+    let n = word_at(v, RESULT_WORDS);
+    let m = word_at(v, WORK_WORDS);
     let mut result = before;
     let mut work = before;
     run_agrees(
@@ -152,7 +172,7 @@ fn run_marked(v: &[u8]) -> bool
         &mut result[..n],
         &mut work[..m],
         &before[..n],
-        &idle[..m],
+        &before[..m],
     )
 }
 

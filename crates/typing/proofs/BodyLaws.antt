@@ -1,7 +1,7 @@
 -- A whole body from the walk of its one part.
 use Prim.Native.Nat.{ℕ, ◌+◌}
 use mathlib.Core.Path.{◌≡◌, refl, sym, ap, ◌∙◌}
-use mathlib.Core.Bool.{false}
+use mathlib.Core.Bool.{Bool, false}
 use mathlib.Core.List.{List}
 use lib.ListN.{length}
 use Rattle.std.specs.Prelude.{Result, Ok, Err, IfOk}
@@ -11,9 +11,8 @@ use Rattle.rules.specs.Reading.{read_part, part_at}
 use Rattle.rules.proofs.ReadingLaws.{body_wrong, body_whole, body_rest}
 use Rattle.rules.proofs.Decoding.{read, read_end}
 use Rattle.typing.specs.declared.State.{State}
-use Rattle.typing.specs.declared.Way.{Way}
 use Rattle.typing.specs.declared.Notes.{Notes}
-use Rattle.typing.specs.Walking.{Tally, told, way_of, walked, tallied, begun, shut, scope_at, Kept, BodyAsked, Body, tally_of}
+use Rattle.typing.specs.Walking.{Tally, told, way_of, walked, tallied, begun, shut, scope_at, Kept, body_way, Asked, Body, tally_of}
 use Rattle.typing.proofs.WalkLaws.{bytes, names}
 
 going_was : (r : Result ℕ ℕ) (t u : Tally) → Ok u ≡ way_of r t → (e : ℕ) × (r ≡ Ok e) × (u ≡ t)
@@ -24,44 +23,44 @@ stopped_was : (r : Result ℕ ℕ) (t : Tally) (a : ℕ) → Err a ≡ way_of r 
 stopped_was (Ok e) t a q = absurd cc
 stopped_was (Err b) t a q = cc
 
-module _ (s : List ℕ) (n : Notes) (start : ℕ) (w : Way) (a : BodyAsked s n start w) (x : Result State ℕ) (v : Notes)
-    (t : tallied x v ≡ walked s w most_depth (tally_of (begun start) n)) (k : IfOk x (λ y. Kept s w.level (tally_of y v))) where
-  pub body_off : (e : ℕ) → x ≡ Err e → Body s w start (tally_of (begun start) n) x v
+module _ (s : List ℕ) (n : Notes) (start : ℕ) (table : Bool) (a : Asked s n (begun start) most_depth (body_way table))
+    (x : Result State ℕ) (v : Notes) (t : tallied x v ≡ walked s (body_way table) most_depth (tally_of (begun start) n))
+    (k : IfOk x (λ y. Kept s 0 (tally_of y v))) where
+  pub body_off : (e : ℕ) → x ≡ Err e → Body s table start (tally_of (begun start) n) x v
   unfolding Body walked
   body_off e q =
-      let f : Err e ≡ way_of (read_part s (scope_at s w) most_depth w.predicate start)
-      (told (part_at s (shut s) most_depth start) w.level (tally_of (begun start) n)) = rw q at t in
-      let g = stopped_was (read_part s (scope_at s w) most_depth w.predicate start)
-      (told (part_at s (shut s) most_depth start) w.level (tally_of (begun start) n)) e f in
-      rw q (body_wrong s (scope_at s w) start e (rw a.free at g))
+      let c = scope_at s (body_way table) in
+      let p = told (part_at s (shut s) most_depth start) 0 (tally_of (begun start) n) in
+      let f : Err e ≡ way_of (read_part s c most_depth false start) p = rw q at t in
+      rw q (body_wrong s c start e (stopped_was (read_part s c most_depth false start) p e f))
 
   module _ (st : State) (q : x ≡ Ok st) where
     Was : Type 0
     Was =
-        (read_part s (scope_at s w) most_depth false start ≡ Ok st.at)
-        × (tally_of st v ≡ told (part_at s (shut s) most_depth start) w.level (tally_of (begun start) n))
+        (read_part s (scope_at s (body_way table)) most_depth false start ≡ Ok st.at)
+        × (tally_of st v ≡ told (part_at s (shut s) most_depth start) 0 (tally_of (begun start) n))
 
     was : Was
     unfolding Was walked
     was =
+        let w = body_way table in
         let c = scope_at s w in
         let p = part_at s (shut s) most_depth start in
-        let f : Ok (tally_of st v) ≡ way_of (read_part s c most_depth w.predicate start) (told p w.level (tally_of (begun start) n))
-        = rw q at t in
-        let g = going_was (read_part s c most_depth w.predicate start) (told p w.level (tally_of (begun start) n)) (tally_of st v) f in
-        let r = read s (bytes s a.asked.sound w) c (shut s) (names s a.asked.sound w) most_depth w.predicate start g.0 g.1 in
-        let e : g.0 ≡ start + size p = read_end s c (shut s) most_depth w.predicate start g.0 r in
-        let h : read_part s c most_depth w.predicate start ≡ Ok st.at
-        = g.1 ∙ ap (λ (i : ℕ). Ok i) (e ∙ sym (ap (λ (i : Tally). i.at) g.2)) in
-        (rw a.free at h, g.2)
+        let t' = told p 0 (tally_of (begun start) n) in
+        let f : Ok (tally_of st v) ≡ way_of (read_part s c most_depth false start) t' = rw q at t in
+        let g = going_was (read_part s c most_depth false start) t' (tally_of st v) f in
+        let r = read s (bytes s a.sound w) c (shut s) (names s a.sound w) most_depth false start g.0 g.1 in
+        let e : g.0 ≡ start + size p = read_end s c (shut s) most_depth false start g.0 r in
+        (g.1 ∙ ap (λ (i : ℕ). Ok i) (e ∙ sym (ap (λ (i : Tally). i.at) g.2)), g.2)
 
-    kept : Kept s w.level (tally_of st v)
+    kept : Kept s 0 (tally_of st v)
     kept = rw q at k
 
-    pub body_on : st.at ≡ length s → Body s w start (tally_of (begun start) n) (Ok st) v
+    pub body_on : st.at ≡ length s → Body s table start (tally_of (begun start) n) (Ok st) v
     unfolding Body Was
-    body_on h = (body_whole s (scope_at s w) start (length s) (was.0 ∙ ap (λ (i : ℕ). Ok i) h) refl, was.1, kept)
+    body_on h =
+        (body_whole s (scope_at s (body_way table)) start (length s) (was.0 ∙ ap (λ (i : ℕ). Ok i) h) refl, was.1, kept)
 
-    pub body_more : (st.at ≡ length s → ⊥) → Body s w start (tally_of (begun start) n) (Err st.at) v
+    pub body_more : (st.at ≡ length s → ⊥) → Body s table start (tally_of (begun start) n) (Err st.at) v
     unfolding Body Was
-    body_more h = body_rest s (scope_at s w) start st.at was.0 h
+    body_more h = body_rest s (scope_at s (body_way table)) start st.at was.0 h

@@ -2,18 +2,18 @@
 use Prim.Native.Nat.{ℕ, ◌+◌, ◌*◌, ◌≤◌}
 use native.Mathlib.Omega.{arith}
 use mathlib.Core.Path.{◌≡◌, sym, ◌∙◌}
-use mathlib.Core.Bool.{Bool, false, not}
+use mathlib.Core.Bool.{Bool, not}
 use mathlib.Core.List.{List}
 use lib.ListN.{length, get_or, take, drop}
 use lib.Seq.{get_or-take, length-take-le}
 use Rattle.std.specs.Prelude.{Ok}
-use Rattle.rules.specs.Books.{Scope, scope_of, first_body, Fine, most_fields, most_tables, most_bytes, Bytes}
+use Rattle.rules.specs.Books.{Scope, scope_of, first_body, Fine, most_depth, most_fields, most_tables, most_bytes, Bytes}
 use Rattle.rules.specs.Reading.{read_part, part_at, fields_of, tables_of, reads_at, writes_at}
 use Rattle.rules.proofs.Decoding.{bytes_take, unpopulated, Names, read, reads, read_front}
 use Rattle.rules.proofs.Whole.{fine_same}
 use Rattle.typing.specs.declared.Way.{Way}
 use Rattle.typing.specs.declared.Notes.{Notes}
-use Rattle.typing.specs.Walking.{shut, scope_at, unused, Sound, BodyAsked}
+use Rattle.typing.specs.Walking.{shut, scope_at, unused, begun, body_way, Sound, Asked}
 
 module _ (s : List ℕ) (e : ℕ) (h : first_body (tables_of s) ≤ e) where
   pub front_fields : fields_of (take e s) ≡ fields_of s
@@ -60,22 +60,19 @@ module _ (s : List ℕ) (e : ℕ) (h : first_body (tables_of s) ≤ e) where
       }
 
   -- a body begins below no concurrent part
-  pub front_asked : (n : Notes) (start : ℕ) (w : Way) → Bytes s → fields_of s ≤ most_fields → tables_of s ≤ most_tables → e ≤ length s
+  pub front_asked : (n : Notes) (start : ℕ) (table : Bool) → Bytes s → fields_of s ≤ most_fields → tables_of s ≤ most_tables → e ≤ length s
       → length s ≤ most_bytes → start ≤ e → length n.uses ≡ 16 → ((x : ℕ) → (get_or n.uses x unused).count ≤ start)
-      → w.level ≡ 0 → w.predicate ≡ false → BodyAsked (take e s) n start w
-  front_asked n start w small k t le few hi room noted flat free =
+      → Asked (take e s) n (begun start) most_depth (body_way table)
+  front_asked n start table small k t le few hi room noted =
       let len : length (take e s) ≡ e = length-take-le e s le in
       record {
-        asked = record {
-          sound = front_sound small k t le few;
-          kept = record {
-            within = omega (arith, len);
-            parts = omega arith;
-            few = noted;
-            room = room;
-            deep = omega arith;
-          };
-          level = omega arith;
+        sound = front_sound small k t le few;
+        kept = record {
+          within = omega (arith, len);
+          parts = omega arith;
+          few = noted;
+          room = room;
+          deep = omega arith;
         };
-        free = free;
+        level = omega arith;
       }

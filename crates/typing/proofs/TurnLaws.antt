@@ -22,11 +22,10 @@ use Rattle.rules.proofs.Whole.{names_use, names_none}
 use Rattle.typing.proofs.EntryLaws.{entries_stop, entries_step, entry_open, entry_table}
 use Rattle.std.specs.Prelude.{None, Some, Result, Ok, Err}
 use Rattle.typing.specs.declared.State.{State}
-use Rattle.typing.specs.declared.Way.{Way}
 use Rattle.typing.specs.declared.Use.{Use}
 use Rattle.typing.specs.declared.Notes.{Notes}
 use Rattle.typing.specs.declared.Sums.{Sums}
-use Rattle.typing.specs.Walking.{told, tally_of, begun, mark, shut, unused, BodyAsked, Body}
+use Rattle.typing.specs.Walking.{told, tally_of, begun, mark, shut, unused, body_way, Asked, Body}
 use Rattle.typing.specs.Summing.{total, reach, top, total_of, top_of, body_parts, body_deep, wrongs_from, misfits_from}
 use Rattle.typing.specs.Summing.{Fronted, Cleared, So, Turned}
 use Rattle.typing.proofs.TallyLaws.{first_assoc}
@@ -55,10 +54,7 @@ top_next : (e : ℕ → ℕ) (l : List Use) (y : ℕ) → top e l (suc y) ≡ ma
 unfolding top
 top_next e l y = refl
 
--- the way to a body, and the notes before one
-abbrev pub body_way : Bool → Way
-body_way t = record { in_table = t; predicate = false; level = 0 }
-
+-- the notes before a table's body
 abbrev pub flat : Notes → Notes
 flat n = record { fault = n.fault; deep = 0; uses = n.uses }
 
@@ -77,16 +73,16 @@ module _ (s : List ℕ) (F : Fronted s) where
     end_in = omega (arith, end_is, in_book_lem y l)
 
     pub entry_asked : (n : Notes) → length n.uses ≡ 16 → ((x : ℕ) → (get_or n.uses x unused).count ≤ at)
-        → BodyAsked (take (at + k) s) n at (body_way table)
+        → Asked (take (at + k) s) n (begun at) most_depth (body_way table)
     entry_asked n room few =
-        front_asked s (at + k) (omega (arith, end_is, above (suc y))) n at (body_way table) F.bytes F.fields.1 F.tables end_in F.long.1
-        (omega arith) room few refl refl
+        front_asked s (at + k) (omega (arith, end_is, above (suc y))) n at table F.bytes F.fields.1 F.tables end_in F.long.1
+        (omega arith) room few
 
-    entry_body : (n v : Notes) (x : Result State ℕ) → Body (take (at + k) s) (body_way table) at (tally_of (begun at) n) x v
-        → Body (take (body_start s (suc y)) s) (body_way table) (body_start s y) (tally_of (begun (body_start s y)) n) x v
+    entry_body : (n v : Notes) (x : Result State ℕ) → Body (take (at + k) s) table at (tally_of (begun at) n) x v
+        → Body (take (body_start s (suc y)) s) table (body_start s y) (tally_of (begun (body_start s y)) n) x v
     entry_body n v x b =
-        subst (λ (a : ℕ). Body (take (body_start s (suc y)) s) (body_way table) a (tally_of (begun a) n) x v) ea
-        (subst (λ (e : ℕ). Body (take e s) (body_way table) at (tally_of (begun at) n) x v) end_is b)
+        subst (λ (a : ℕ). Body (take (body_start s (suc y)) s) table a (tally_of (begun a) n) x v) ea
+        (subst (λ (e : ℕ). Body (take e s) table at (tally_of (begun at) n) x v) end_is b)
 
   -- ---- the main body
   c : Scope
@@ -96,7 +92,7 @@ module _ (s : List ℕ) (F : Fronted s) where
   p = part_at s (shut s) most_depth (body_start s 0)
 
   module _ (n : Notes) (K : Cleared n) (st : State) (v : Notes)
-      (b : Body (take (body_start s 1) s) (body_way false) (body_start s 0) (tally_of (begun (body_start s 0)) n) (Ok st) v) where
+      (b : Body (take (body_start s 1) s) false (body_start s 0) (tally_of (begun (body_start s 0)) n) (Ok st) v) where
     record Main : Type 0 where
       read : (a : ℕ) × (read_body (take (body_start s 1) s) c (body_start s 0) ≡ Ok a)
       told : Found p (body_start s 0) st n v
@@ -187,12 +183,12 @@ module _ (s : List ℕ) (F : Fronted s) where
         }
 
   module _ (at k : ℕ) (ea : at ≡ body_start s 0) (ek : k ≡ length_at s 0) (n : Notes) (K : Cleared n) (x : Result State ℕ) (v : Notes)
-      (b : Body (take (at + k) s) (body_way false) at (tally_of (begun at) n) x v) where
+      (b : Body (take (at + k) s) false at (tally_of (begun at) n) x v) where
     pub main_off : (a : ℕ) → x ≡ Err a → Turned s 0 (Err a) v
     unfolding Body Turned read_entries read_entry
     main_off a q =
-        let e : Body (take (body_start s 1) s) (body_way false) (body_start s 0) (tally_of (begun (body_start s 0)) n) (Err a) v
-        = subst (λ (x : Result State ℕ). Body (take (body_start s 1) s) (body_way false) (body_start s 0) (tally_of (begun (body_start s 0)) n) x v) q
+        let e : Body (take (body_start s 1) s) false (body_start s 0) (tally_of (begun (body_start s 0)) n) (Err a) v
+        = subst (λ (x : Result State ℕ). Body (take (body_start s 1) s) false (body_start s 0) (tally_of (begun (body_start s 0)) n) x v) q
         (entry_body false 0 (omega arith) at k ea ek n v x b) in
         let r : read_body (take (body_start s 1) s) (scope_of (fields_of s) (tables_of s) true) (body_start s 0) ≡ Err a
         = rw (front_scope s (body_start s 1) (above 1) (body_way false)) at e in
@@ -203,8 +199,8 @@ module _ (s : List ℕ) (F : Fronted s) where
         → z.unfit ≡ option_or None (cond t None (Some at)) → Turned s 0 (Ok z) v
     unfolding Turned
     main_on st q t r w er ew et z za zp zd zu =
-        let e : Body (take (body_start s 1) s) (body_way false) (body_start s 0) (tally_of (begun (body_start s 0)) n) (Ok st) v
-        = subst (λ (x : Result State ℕ). Body (take (body_start s 1) s) (body_way false) (body_start s 0) (tally_of (begun (body_start s 0)) n) x v) q
+        let e : Body (take (body_start s 1) s) false (body_start s 0) (tally_of (begun (body_start s 0)) n) (Ok st) v
+        = subst (λ (x : Result State ℕ). Body (take (body_start s 1) s) false (body_start s 0) (tally_of (begun (body_start s 0)) n) x v) q
         (entry_body false 0 (omega arith) at k ea ek n v x b) in
         main_so n K st v e (main_told n K st v e) z (za ∙ end_is false 0 (omega arith) at k ea ek) zp zd (zu ∙ rw (et, er, ew, ea))
 
@@ -267,7 +263,7 @@ module _ (s : List ℕ) (F : Fronted s) where
 
     -- one that is
     module _ (k : ℕ) (ek : k ≡ length_at s y) (full : k ≡ 0 → ⊥) (x : Result State ℕ) (v : Notes)
-        (b : Body (take (z.at + k) s) (body_way true) z.at (tally_of (begun z.at) (flat n)) x v) where
+        (b : Body (take (z.at + k) s) true z.at (tally_of (begun z.at) (flat n)) x v) where
       entry_is : (r : Result ℕ ℕ) → r ≡ read_body (take (body_start s (suc y)) s) (scope_of (fields_of s) (tables_of s) false) (body_start s y)
           → r ≡ read_entry s y
       entry_is r e =
@@ -275,14 +271,14 @@ module _ (s : List ℕ) (F : Fronted s) where
           entry_table s y (body_start s y) (length_at s y) (fields_of s) (tables_of s) r refl refl refl refl not_main
           (λ q. full (ek ∙ q)) (rw at e)
 
-      moved : Body (take (body_start s (suc y)) s) (body_way true) (body_start s y) (tally_of (begun (body_start s y)) (flat n)) x v
+      moved : Body (take (body_start s (suc y)) s) true (body_start s y) (tally_of (begun (body_start s y)) (flat n)) x v
       moved = entry_body true y hi z.at k so.place ek (flat n) v x b
 
       pub table_off : (a : ℕ) → x ≡ Err a → Turned s y (Err a) v
       unfolding Body Turned
       table_off a q =
-          let e : Body (take (body_start s (suc y)) s) (body_way true) (body_start s y) (tally_of (begun (body_start s y)) (flat n)) (Err a) v
-          = subst (λ (x : Result State ℕ). Body (take (body_start s (suc y)) s) (body_way true) (body_start s y)
+          let e : Body (take (body_start s (suc y)) s) true (body_start s y) (tally_of (begun (body_start s y)) (flat n)) (Err a) v
+          = subst (λ (x : Result State ℕ). Body (take (body_start s (suc y)) s) true (body_start s y)
           (tally_of (begun (body_start s y)) (flat n)) x v) q moved in
           let r : read_body (take (body_start s (suc y)) s) (scope_of (fields_of s) (tables_of s) false) (body_start s y) ≡ Err a
           = rw (front_scope s (body_start s (suc y)) (above (suc y)) (body_way true)) at e in
@@ -305,8 +301,8 @@ module _ (s : List ℕ) (F : Fronted s) where
             let c : Scope = scope_of (fields_of s) (tables_of s) false in
             let h = above (suc y) in
             let le = in_book_lem y hi in
-            let e : Body f (body_way true) A (tally_of (begun A) (flat n)) (Ok st) v
-            = subst (λ (x : Result State ℕ). Body f (body_way true) A (tally_of (begun A) (flat n)) x v) q moved in
+            let e : Body f true A (tally_of (begun A) (flat n)) (Ok st) v
+            = subst (λ (x : Result State ℕ). Body f true A (tally_of (begun A) (flat n)) x v) q moved in
             let r : read_body f c A ≡ Ok (length f) = rw (front_scope s E h (body_way true)) at e.0 in
             let g = then_was (read_part f c most_depth false A) (λ a. cond (eqb a (length f)) (Ok a) (Err a)) (length f) r in
             let tp = table_part s E h F.bytes A g.0 g.1 in

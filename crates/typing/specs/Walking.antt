@@ -65,6 +65,9 @@ right_states wp wq p q = right_masks wp wq p.tests p.writes q.tests q.writes
 abbrev pub scope_at : List ℕ → Way → Scope
 scope_at s w = scope_of (fields_of s) (tables_of s) (not w.in_table)
 
+abbrev pub body_way : Bool → Way
+body_way in_table = record { in_table = in_table; predicate = false; level = 0 }
+
 -- a use of a table by itself, without the table's body
 unfoldable pub shut : List ℕ → ℕ → Part
 shut s x = Open x (reads_at s x) (writes_at s x)
@@ -192,13 +195,9 @@ abbrev pub Noted : ℕ → Part → Result State ℕ → Notes → Notes → Typ
 Noted o p r n after = IfOk r (λ _. after ≡ noting n (noted p o n.uses))
 
 -- ---- a whole body: exactly one part, which ends where s ends
-pub record BodyAsked (s : List ℕ) (n : Notes) (start : ℕ) (w : Way) : Type 0 where
-  pub asked : Asked s n (begun start) most_depth w
-  pub free : w.predicate ≡ false
-
-unfoldable pub Body : List ℕ → Way → ℕ → Tally → Result State ℕ → Notes → Type 0
-Body s w start t (Ok st) n =
-    (read_body s (scope_at s w) start ≡ Ok (length s))
-    × (tally_of st n ≡ told (part_at s (shut s) most_depth start) w.level t)
-    × Kept s w.level (tally_of st n)
-Body s w start t (Err a) n = read_body s (scope_at s w) start ≡ Err a
+unfoldable pub Body : List ℕ → Bool → ℕ → Tally → Result State ℕ → Notes → Type 0
+Body s in_table start t (Ok st) n =
+    (read_body s (scope_at s (body_way in_table)) start ≡ Ok (length s))
+    × (tally_of st n ≡ told (part_at s (shut s) most_depth start) 0 t)
+    × Kept s 0 (tally_of st n)
+Body s in_table start t (Err a) n = read_body s (scope_at s (body_way in_table)) start ≡ Err a

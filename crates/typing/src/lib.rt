@@ -10,27 +10,15 @@ ghost use Rattle.rules.specs.Masks.{field, within, apart};
 ghost use Rattle.rules.specs.Typing.{fit_masks};
 ghost use Rattle.rules.specs.Reading.{read_operands, fields_of, tables_of, head, built, verdict};
 ghost use Rattle.rules.specs.Promises.{AcceptAnswer};
-ghost use Rattle.typing.specs.Walking.{moved, masked, bare, joined, right_states, begun, unused, note_use, noting, if_read};
+ghost use Rattle.typing.specs.Walking.{moved, masked, bare, joined, right_states, begun, body_way, unused, note_use, noting, if_read};
 ghost use Rattle.typing.specs.Walking.{tally_of, tallied, fault_after, walked, shut, leafed, leaf_read, leaf_at, Noted};
-ghost use Rattle.typing.specs.Walking.{Sound, Kept, Asked, BesideAsked, LeafAsked, BodyAsked, Body};
+ghost use Rattle.typing.specs.Walking.{Sound, Kept, Asked, BesideAsked, LeafAsked, Body};
 ghost use Rattle.typing.specs.Summing.{Fronted, Cleared, So, Turned, Ends, Ended};
 
-use rules::{Reason, Refusal, Sizes};
-
-// The codes.
-const TEST: u8 = 2;
-
-const SET: u8 = 3;
-
-const NOT: u8 = 4;
-
-const SUM: u8 = 5;
-
-const SEQUENCE: u8 = 6;
-
-const BESIDE: u8 = 7;
-
-const TABLE: u8 = 8;
+use rules::{
+    BESIDE, DROP, ID, MOST_BESIDE, MOST_DEPTH, MOST_PARTS, NOT, Reason, Refusal, SEQUENCE, SET,
+    SUM, Sizes, TABLE, TEST,
+};
 
 // What stands after a part: the place, the parts so far, and T and M so far. It goes up through the walk in memory, so it is small: a
 // body has 4,096 bytes at most.
@@ -85,8 +73,7 @@ impl State {
         State {
             at: self.at + 1 + shape.operands as u16,
             parts: self.parts + 1,
-            tests: self.tests,
-            writes: self.writes,
+            ..self
         }
     }
 
@@ -95,10 +82,9 @@ impl State {
         ensures { result ≡ bare self }
     {
         State {
-            at: self.at,
-            parts: self.parts,
             tests: 0,
             writes: 0,
+            ..self
         }
     }
 
@@ -107,10 +93,9 @@ impl State {
         ensures { result ≡ masked tests writes self }
     {
         State {
-            at: self.at,
-            parts: self.parts,
             tests: self.tests | tests,
             writes: self.writes | writes,
+            ..self
         }
     }
 }
@@ -120,10 +105,9 @@ fn joined(st: State, l: State, r: State, wp: u8, wq: u8) -> State
     ensures { result ≡ joined wp wq st l r }
 {
     State {
-        at: r.at,
-        parts: r.parts,
         tests: st.tests | (l.tests | r.tests),
         writes: st.writes | (wp | wq),
+        ..r
     }
 }
 
@@ -211,7 +195,7 @@ fn leaf(s: &[u8], notes: &mut Notes, st: State, way: Way) -> Result<State, usize
 {
     let code = s[st.place()];
     match code {
-        0 | 1 => Ok(st.past(0)),
+        ID | DROP => Ok(st.past(ID)),
         TEST => {
             let bit = field_bit(s, st, TEST)?;
             Ok(st.with_masks(bit, 0).past(TEST))
@@ -232,16 +216,8 @@ fn leaf(s: &[u8], notes: &mut Notes, st: State, way: Way) -> Result<State, usize
             use_part(s, notes, st, way)
         }
         // The codes with parts are the walk's, and none is known from 9 on.
-        4..=7 | 9..=255 => Err(st.place()),
+        NOT..=BESIDE | 9..=255 => Err(st.place()),
     }
-}
-
-// Do parts stand below a code?
-fn has_parts(code: u8) -> bool
-    ensures { result ≡ not (eqb (parts_of code) 0) }
-{
-    let shape = rules::shape_of(code);
-    shape.parts != 0
 }
 
 // ---- a part and all below it
@@ -260,7 +236,7 @@ fn side(s: &[u8], notes: &mut Notes, st: State, depth: usize, way: Way) -> Resul
     if depth == 0 {
         return Err(st.place());
     }
-    if has_parts(s[st.place()]) {
+    if rules::shape_of(s[st.place()]).parts != 0 {
         return walk(s, notes, st, depth, way);
     }
     leaf(s, notes, st, way)
@@ -293,9 +269,8 @@ fn beside_part(
     book::read_operands(s, BESIDE, st.place())?;
     let before = notes.fault;
     let below = Way {
-        in_table: way.in_table,
-        predicate: way.predicate,
         level: way.level + 1,
+        ..way
     };
     notes.deep = notes.deep.max(below.level);
     let left = walk(s, notes, st.bare().past(BESIDE), depth, below);
@@ -307,37 +282,40 @@ fn beside_part(
         return right;
     };
     let h = book::head_at(s, st.place());
-    let right = right_states(h.left, h.right, l, r);
-    notes.fault = fault_after(before, right, st.place(), notes.fault);
+    let apart = right_states(h.left, h.right, l, r);
+    notes.fault = fault_after(before, apart, st.place(), notes.fault);
     Ok(joined(st, l, r, h.left, h.right))
 }
 
 // The part at the state's place and all below it, at most depth deep. The last part below a code is walked in the loop.
 #[cycle(walking)]
-fn walk(s: &[u8], notes: &mut Notes, from: State, depth: usize, way: Way) -> Result<State, usize>
-    requires { Asked s.now notes.old from depth way }
-    ensures told { tallied result notes.new ≡ walked s.now way depth (tally_of from notes.old) }
+fn walk(
+    s: &[u8],
+    notes: &mut Notes,
+    mut st: State,
+    mut depth: usize,
+    mut way: Way,
+) -> Result<State, usize>
+    requires { Asked s.now notes.old st depth way }
+    ensures told { tallied result notes.new ≡ walked s.now way depth (tally_of st notes.old) }
     ensures kept { IfOk result (λ r. Kept s.now way.level (tally_of r notes.new)) }
 {
-    let mut st = from;
-    let mut d = depth;
-    let mut w = way;
     loop {
         if s.len() <= st.place() {
             return Err(s.len());
         }
-        if d == 0 {
+        if depth == 0 {
             return Err(st.place());
         }
-        d -= 1;
+        depth -= 1;
         let code = s[st.place()];
         match code {
             NOT => {
                 st = st.past(NOT);
-                w.predicate = true;
+                way.predicate = true;
             }
             SUM | SEQUENCE => {
-                let left = side(s, notes, st.past(SUM), d, w);
+                let left = side(s, notes, st.past(SUM), depth, way);
                 let Ok(l) = left else {
                     return left;
                 };
@@ -345,22 +323,22 @@ fn walk(s: &[u8], notes: &mut Notes, from: State, depth: usize, way: Way) -> Res
             }
             // A concurrent part is no predicate.
             BESIDE => {
-                if w.predicate {
+                if way.predicate {
                     return Err(st.place());
                 }
-                return beside_part(s, notes, st, d, w);
+                return beside_part(s, notes, st, depth, way);
             }
             _ => {
-                return leaf(s, notes, st, w);
+                return leaf(s, notes, st, way);
             }
         }
     }
 }
 
 // A body that starts at a place and ends where s ends: what stands after it, or its first byte that cannot stand there.
-fn whole(s: &[u8], notes: &mut Notes, start: usize, way: Way) -> Result<State, usize>
-    requires { BodyAsked s.now notes.old start way }
-    ensures { Body s.now way start (tally_of (begun start) notes.old) result notes.new }
+fn whole(s: &[u8], notes: &mut Notes, start: usize, in_table: bool) -> Result<State, usize>
+    requires { Asked s.now notes.old (begun start) 32 (body_way in_table) }
+    ensures { Body s.now in_table start (tally_of (begun start) notes.old) result notes.new }
 {
     let before = State {
         at: start as u16,
@@ -368,7 +346,12 @@ fn whole(s: &[u8], notes: &mut Notes, start: usize, way: Way) -> Result<State, u
         tests: 0,
         writes: 0,
     };
-    let part = walk(s, notes, before, 32, way);
+    let way = Way {
+        in_table,
+        predicate: false,
+        level: 0,
+    };
+    let part = walk(s, notes, before, MOST_DEPTH, way);
     let Ok(st) = part else {
         return part;
     };
@@ -424,12 +407,7 @@ fn main_body(book: &[u8], notes: &mut Notes) -> Result<Sums, usize>
 {
     let at = book::body_start(book, 0);
     let end = at + book::length_of(book, 0);
-    let way = Way {
-        in_table: false,
-        predicate: false,
-        level: 0,
-    };
-    let st = whole(&book[..end], notes, at, way)?;
+    let st = whole(&book[..end], notes, at, false)?;
     let fits = fit_state(book::reads_of(book, 0), book::writes_of(book, 0), st);
     Ok(Sums {
         at: end,
@@ -451,12 +429,7 @@ fn table_body(book: &[u8], notes: &mut Notes, y: u8, z: Sums) -> Result<Sums, us
     let at = z.at;
     let end = at + size;
     notes.deep = 0;
-    let way = Way {
-        in_table: true,
-        predicate: false,
-        level: 0,
-    };
-    let st = whole(&book[..end], notes, at, way)?;
+    let st = whole(&book[..end], notes, at, true)?;
     let fits = fit_state(book::reads_of(book, y), book::writes_of(book, y), st);
     let used = notes.uses[usize::from(y)];
     Ok(Sums {
@@ -486,7 +459,7 @@ fn sentence(book: &[u8], z: Sums, fault: Option<usize>) -> Result<Sizes, Refusal
     requires { Fronted book.now × Ends book.now z fault }
     ensures { result ≡ verdict book.now }
 {
-    if 1023 < z.parts || 4 < z.deep {
+    if MOST_PARTS < z.parts || MOST_BESIDE < z.deep {
         return Err(Reason::Limits.into());
     }
     if let Some(place) = fault.or(z.unfit) {

@@ -225,22 +225,22 @@ walk_packets-returns t c =
     rw (from_here c.args.set.now c.args.i c.requires.within c.if-i-set.false, c.joined.ensures)
     (gives_split _ _ _ _ _ first _ few_here left c.in_ok-second.ensures (few c.join.new.self) c.in_ok-join.ensures.joined.same)
 
-pub table_at-returns-then-not-main : goal.table_at-returns-then-not-main
-table_at-returns-then-not-main t c =
-    rw (table_none _ _ c.args.table c.if-not-main.true, c.leaf.ensures) (gives_id (few c.args.set.now) _)
+pub table_at-returns-in-Table : goal.table_at-returns-in-Table
+table_at-returns-in-Table t c =
+    rw (table_none _ _ c.args.table c.in-Table.is, c.leaf.ensures) (gives_id (few c.args.set.now) _)
 
 pub table_at-evaluate_part-requires : goal.table_at-evaluate_part-requires
 table_at-evaluate_part-requires t c =
-    down_table t (table_used _ _ _ _ c.if-not-main.false c.body_start-start.ensures.0 c.requires.closed) c.decreases c.requires
+    down_table t (table_used _ _ _ _ c.in-Main.is c.body_start-start.ensures.0 c.requires.closed) c.decreases c.requires
 
-pub table_at-returns-in_err-body : goal.table_at-returns-in_err-body
-table_at-returns-in_err-body t c =
-    rw (table_used _ _ _ _ c.if-not-main.false c.body_start-start.ensures.0 c.requires.closed) (rw (handed_up c.from_residual.ensures.1) (over_table _ _ c.in_err-body.ensures _ _ _ _))
+pub table_at-returns-in_err-part-in-Main : goal.table_at-returns-in_err-part-in-Main
+table_at-returns-in_err-part-in-Main t c =
+    rw ((table_used _ _ _ _ c.in-Main.is c.body_start-start.ensures.0 c.requires.closed), handed_up c.from_residual.ensures.1) (over_table _ _ c.in_err-part-in-Main.ensures _ _ _ _)
 
 pub table_at-table_of-requires : goal.table_at-table_of-requires
 table_at-table_of-requires t c =
-    small_table (table_used _ _ _ _ c.if-not-main.false c.body_start-start.ensures.0 c.requires.closed) c.requires c.in_ok-body.ensures
+    small_table (table_used _ _ _ _ c.in-Main.is c.body_start-start.ensures.0 c.requires.closed) c.requires c.in_ok-part-in-Main.ensures
 
-pub table_at-returns : goal.table_at-returns
-table_at-returns t c =
-    rw ((table_used _ _ _ _ c.if-not-main.false c.body_start-start.ensures.0 c.requires.closed), c.table_of.ensures) (gives_table c.in_ok-body.ensures _ _ _ _ _)
+pub table_at-returns-in_ok-part-in-Main : goal.table_at-returns-in_ok-part-in-Main
+table_at-returns-in_ok-part-in-Main t c =
+    rw ((table_used _ _ _ _ c.in-Main.is c.body_start-start.ensures.0 c.requires.closed), c.table_of.ensures) (gives_table c.in_ok-part-in-Main.ensures _ _ _ _ _)

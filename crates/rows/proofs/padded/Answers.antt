@@ -1,6 +1,6 @@
--- The words up to i are copied.
-use Rattle.rows.proofs.Padding.{padded_end}
+-- The packet is written over zeros.
+use Rattle.rows.proofs.Padding.{padded_lem}
 use Rattle.rows.proofs.padded.Goals as goal
 
 pub returns : goal.returns
-returns c = padded_end _ _ _ c.loop-i-test.false c.loop-i.invariant.0 c.loop-i.invariant.1
+returns c = padded_lem c.args.packet.now _ c.requires c.copy_from_slice.ensures.after

@@ -5,6 +5,4 @@ use Rattle.rows.proofs.put_at.Goals as goal
 
 pub returns : goal.returns
 unfolding put
-returns c =
-    let a = c.args in
-    rw c.start-b.ensures.0 (stored_value a.i a.f a.x c.requires.2 c.requires.0 c.requires.1)
+returns g c = stored_value c.args.i c.args.f c.args.x c.requires.2 c.requires.0 c.requires.1

@@ -1,25 +1,20 @@
--- The values of the first i rows are written.
-use mathlib.Core.Path.{refl, sym, ◌∙◌}
+-- The values of row i are written after those of the rows before it.
+use mathlib.Core.Path.{refl, ap, ◌∙◌}
+use mathlib.Core.List.{List}
 use native.Mathlib.Omega.{arith}
-use native.Mathlib.Nat.{zero-mul, suc-mul}
-use native.Mathlib.Numerals.{add-one}
+use native.Mathlib.Nat.{zero-mul}
+use Prim.Native.Nat.{ℕ}
+use lib.ListN.{take}
 use Rattle.rules.specs.Packets.{values_of}
 use Rattle.rows.proofs.Words.{emit_next}
-use borrow.Author.Rules.{rules}
 use Rattle.rows.proofs.put_rows.Goals as goal
 
 pub loop-i-init : goal.loop-i-init
 unfolding values_of
-loop-i-init c = (search rules, sym (zero-mul c.args.k), refl, refl)
+loop-i-init g c = rw (zero-mul c.args.k) refl
 
 pub loop-i-preserved : goal.loop-i-preserved
-loop-i-preserved c =
-    let g = c.args in
-    let m = c.loop-i in
-    let e = emit_next g.k m.i m.at c.start.result g.out.now c.requires.0 (omega (arith, c.requires.1)) c.requires.3 m.invariant.1
-    c.start.ensures.0 in (
-      omega arith,
-      rw (add-one m.i, suc-mul, m.invariant.1),
-      rw (c.copy_in.ensures, m.invariant.2) e,
-      c.copy_in.auto.out ∙ m.invariant.3,
-    )
+loop-i-preserved g c =
+    let a = c.args in
+    emit_next a.k c.loop-i.i a.out.now c.loop-i.out _ c.requires.0 (omega (arith, c.loop-i-test.true, c.requires.1)) c.requires.3
+    c.loop-i.invariant (c.copy_from_slice.ensures.after ∙ ap (λ (x : List ℕ). take a.k x) c.row.ensures)

@@ -1,7 +1,10 @@
--- The row is taken up and laid down by itself.
-use Rattle.rows.proofs.Chunks.{row_alone}
+-- The rows are the chunks that the library cuts.
+use mathlib.Core.Path.{ap, ◌∙◌}
+use mathlib.Core.List.{[]}
+use lib.ListN.{get_or}
+use Rattle.rules.specs.Packets.{Packets}
+use Rattle.rows.proofs.Chunks.{cut_rows}
 use Rattle.rows.proofs.row.Goals as goal
 
 pub returns : goal.returns
-returns c =
-    row_alone c.args.j _ _ _ c.requires.1 c.requires.0 c.start-b.ensures.0 (c.lay.ensures _ c.lift-p.ensures)
+returns g c = ap (λ (s : Packets). get_or s c.args.i []) (c.as_chunks.ensures.front ∙ cut_rows c.requires.1)

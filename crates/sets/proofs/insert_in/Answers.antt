@@ -8,17 +8,17 @@ use Rattle.sets.proofs.Inserting.{inserted, inserted_there, inserted_not}
 use Rattle.sets.proofs.insert_in.Goals as goal
 
 pub returns-then-k-ge-MOST : goal.returns-then-k-ge-MOST
-returns-then-k-ge-MOST c =
-    inserted_not c.args.r _ _ c.in-Some.i c.args.k (omega (arith, c.requires.0)) (rw c.in-Some.is at c.place_in.ensures).1
+returns-then-k-ge-MOST g c =
+    inserted_not g.row.R _ _ c.in-Some.i c.args.k (omega (arith, c.requires.0)) (rw c.in-Some.is at c.place_in.ensures).1
 
 pub returns-in_default : goal.returns-in_default
-returns-in_default c =
-    inserted_there _ c.args.k c.requires.0 c.requires.2 (rw c.in_default.is at c.place_in.ensures)
+returns-in_default g c =
+    inserted_there _ c.args.k c.requires.0 c.requires.1 (rw c.in_default.is at c.place_in.ensures)
 
 pub returns : goal.returns
-returns c =
+returns g c =
     let a = c.args in
     let f = rw c.in-Some.is at c.place_in.ensures in
-    let n = length_rows_lem a.r a.w.now in
-    let b : c.in-Some.i ≤ a.k = omega (arith, f.0, length-take-le a.k (rows_of a.r a.w.now) (omega (arith, c.requires.0))) in
-    inserted _ c.in-Some.i c.args.k b (omega (arith, c.if-k-ge-MOST.false)) c.shift.ensures c.put_row.ensures f.1
+    let n = length_rows_lem g.row.R a.w.now in
+    let b : c.in-Some.i ≤ a.k = omega (arith, f.0, length-take-le a.k (rows_of g.row.R a.w.now) (omega (arith, c.requires.0))) in
+    inserted _ c.in-Some.i c.args.k b (omega (arith, c.if-k-ge-MOST.false)) c.raise.ensures c.put_row.ensures f.1

@@ -1,20 +1,29 @@
 -- Rows i to a - 1 are lowered.
+use Prim.Native.Nat.{◌+◌, ◌-◌}
+use mathlib.Core.Path.{◌≡◌, refl}
 use native.Mathlib.Omega.{arith}
-use Rattle.sets.proofs.Merging.{lowering_next, lowered, lowered_same}
-use borrow.Author.Rules.{rules}
+use Rattle.sets.proofs.Merging.{lowering_start, lowering_next, lowered, lowered_same}
 use Rattle.sets.proofs.lower.Goals as goal
 
 pub returns-then-k-i : goal.returns-then-k-i
-returns-then-k-i c = lowered_same _ _ _ c.if-k-i.true c.requires.1 c.requires.3
+returns-then-k-i g c = lowered_same _ _ _ c.if-k-i.true c.requires.1 c.requires.3
+
+pub loop-a-init : goal.loop-a-init
+loop-a-init g c =
+    let x = c.args in
+    let e : x.k + (x.i - x.i) ≡ x.k = omega arith in
+    rw e (lowering_start x.k x.i x.e c.requires.3)
 
 pub loop-a-preserved : goal.loop-a-preserved
-loop-a-preserved c =
-    let n = lowering_next c.loop-a.a c.args.e c.loop-a.invariant.3 (search rules) c.requires.2
-    (omega (arith, c.requires.0, c.loop-a.invariant.0)) in
-    (omega arith, omega arith, omega arith, n c.move_row.ensures)
+loop-a-preserved g c =
+    let x = c.args in
+    let a = c.loop-a.a in
+    let e : x.k + (a + 1 - x.i) ≡ x.k + (a - x.i) + 1 = omega arith in
+    rw e (lowering_next a x.e c.loop-a.invariant c.loop-a-test.true c.requires.2 (omega (arith, c.requires.0)) c.move_row.ensures)
 
 pub returns : goal.returns
-returns c =
-    let g = c.args in
-    lowered g.k g.i g.e c.loop-a.a c.loop-a.c c.loop-a.invariant.3 (omega arith) c.requires.2 c.requires.0 c.requires.1 (omega arith)
-    c.clear_rows.ensures
+returns g c =
+    let x = c.args in
+    let a : c.loop-a.a ≡ x.e = omega (arith, c.loop-a-test.false, c.requires.1) in
+    let m = rw a at c.loop-a.invariant in
+    lowered x.k x.i x.e x.e (x.k + (x.e - x.i)) m refl c.requires.2 c.requires.0 c.requires.1 refl c.clear_rows.ensures

@@ -21,51 +21,51 @@ below : (r j m : ℕ) (b : List ℕ) → j < m → Packed r b m
 below r j m b l p = slice_at (rows_of r b) j m l (omega (arith, length_rows_lem r b, p.room))
 
 pub loop-j-preserved-in-Less : goal.loop-j-preserved-in-Less
-loop-j-preserved-in-Less c =
-    let g = c.args in
+loop-j-preserved-in-Less g c =
+    let x = c.args in
     let o = sym c.weigh-o.ensures ∙ c.in-Less.is in
-    let a = ascending_at g.m c.loop-j.j c.requires.1 (search rules) in (
+    let a = ascending_at x.m c.loop-j.j c.requires.1 (search rules) in (
       search rules,
-      merging_less c.loop-j.i g.e c.loop-j.k c.requires.0.top c.loop-j.invariant.1 _ _ (below g.r _ g.m _ (search rules) c.requires.1) a o
+      merging_less c.loop-j.i x.e c.loop-j.k c.requires.0.top c.loop-j.invariant.1 _ _ (below g.row.R _ x.m _ (search rules) c.requires.1) a o
           c.move_row.ensures,
     )
 
 pub loop-j-preserved-in-Equal : goal.loop-j-preserved-in-Equal
-loop-j-preserved-in-Equal c =
-    let g = c.args in
+loop-j-preserved-in-Equal g c =
+    let x = c.args in
     let o = sym c.weigh-o.ensures ∙ c.in-Equal.is in
-    let a = ascending_at g.m c.loop-j.j c.requires.1 (search rules) in (
+    let a = ascending_at x.m c.loop-j.j c.requires.1 (search rules) in (
       omega arith,
-      merging_same c.loop-j.i g.e c.loop-j.k c.requires.0.top c.loop-j.invariant.1 _ _ (below g.r _ g.m _ (search rules) c.requires.1) a o
+      merging_same c.loop-j.i x.e c.loop-j.k c.requires.0.top c.loop-j.invariant.1 _ _ (below g.row.R _ x.m _ (search rules) c.requires.1) a o
           c.move_row-in-Equal.ensures,
     )
 
 pub returns-then-k-i : goal.returns-then-k-i
-returns-then-k-i c =
-    let g = c.args in
+returns-then-k-i g c =
+    let x = c.args in
     let o = sym c.weigh-o.ensures ∙ c.in-Greater.is in
-    let a = ascending_at g.m c.loop-j.j c.requires.1 (search rules) in
+    let a = ascending_at x.m c.loop-j.j c.requires.1 (search rules) in
     let m = c.loop-j.invariant.1 in (
-      merging_over c.loop-j.i g.e c.loop-j.k c.requires.0.top m _ _
-          (below g.r _ g.m _ (search rules) c.requires.1) a g.h g.m o c.if-k-i.true c.requires.0.low
+      merging_over c.loop-j.i x.e c.loop-j.k c.requires.0.top m _ _
+          (below g.row.R _ x.m _ (search rules) c.requires.1) a x.h x.m o c.if-k-i.true c.requires.0.low
           (length_joined c.requires.0 c.requires.1) c.requires.0.room,
       cleared_all c.clear_rows.ensures c.requires.0.top m.zeros,
     )
 
 pub loop-j-preserved : goal.loop-j-preserved
-loop-j-preserved c =
-    let g = c.args in
+loop-j-preserved g c =
+    let x = c.args in
     let o = sym c.weigh-o.ensures ∙ c.in-Greater.is in
-    let a = ascending_at g.m c.loop-j.j c.requires.1 (search rules) in (
+    let a = ascending_at x.m c.loop-j.j c.requires.1 (search rules) in (
       omega arith,
-      merging_more c.loop-j.i g.e c.loop-j.k c.requires.0.top c.loop-j.invariant.1 _ _
-          (below g.r _ g.m _ (search rules) c.requires.1) a o c.if-k-i.false
-          c.copy_row.ensures,
+      merging_more c.loop-j.i x.e c.loop-j.k c.requires.0.top c.loop-j.invariant.1 _ _
+          (below g.row.R _ x.m _ (search rules) c.requires.1) a o c.if-k-i.false
+          (rw c.row.ensures at c.put_row.ensures),
     )
 
 pub returns : goal.returns
-returns c =
-    let g = c.args in
-    let z = slice_end (rows_of g.r g.b.now) c.loop-j.j g.m (search rules) in
-    merging_end c.loop-j.i g.e c.loop-j.k c.requires.0.top c.loop-j.invariant.1 _ z c.lower.ensures
+returns g c =
+    let x = c.args in
+    let z = slice_end (rows_of g.row.R x.b.now) c.loop-j.j x.m (search rules) in
+    merging_end c.loop-j.i x.e c.loop-j.k c.requires.0.top c.loop-j.invariant.1 _ z c.lower.ensures
     (union_ascending _ _ c.requires.0.order)

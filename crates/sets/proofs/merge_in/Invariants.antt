@@ -8,10 +8,10 @@ use Rattle.sets.proofs.Merging.{Merging}
 use Rattle.sets.proofs.merge_in.Given as goal
 
 abbrev pub invariant-loop-j : goal.invariant-loop-j
-invariant-loop-j l =
+invariant-loop-j g l =
     (l.j ≤ l.m)
-    × Merging l.r l.v l.i l.e l.k (slice l.j l.m (rows_of l.r l.b))
-    (union (slice l.h l.e (rows_of l.r l.initial.v)) (take l.m (rows_of l.r l.b)))
+    × Merging g.row.R l.v l.i l.e l.k (slice l.j l.m (rows_of g.row.R l.b))
+    (union (slice l.h l.e (rows_of g.row.R l.initial.v)) (take l.m (rows_of g.row.R l.b)))
 
 abbrev pub decreases-loop-j : goal.decreases-loop-j
-decreases-loop-j l = (l.e - l.i) + (l.m - l.j)
+decreases-loop-j g l = (l.e - l.i) + (l.m - l.j)

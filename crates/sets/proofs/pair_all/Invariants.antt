@@ -1,5 +1,4 @@
--- What the loop of `pair_all` keeps, and what falls.
-use Prim.Native.Nat.{◌≤◌, ◌-◌}
+-- What the loop of `pair_all` keeps.
 use lib.ListN.{take}
 use lib.Seq.{slice}
 use Rattle.rules.specs.Packets.{pairs}
@@ -8,10 +7,6 @@ use Rattle.sets.proofs.Pairing.{Pairing}
 use Rattle.sets.proofs.pair_all.Given as goal
 
 abbrev pub invariant-loop-i : goal.invariant-loop-i
-invariant-loop-i l =
-    (l.i ≤ l.n)
-    × Pairing l.r l.w l.v l.k (slice l.i l.n (rows_of l.r l.a)) (take l.m (rows_of l.r l.b))
-    (pairs l.w (take l.n (rows_of l.r l.a)) (take l.m (rows_of l.r l.b)))
-
-abbrev pub decreases-loop-i : goal.decreases-loop-i
-decreases-loop-i l = l.n - l.i
+invariant-loop-i g l =
+    Pairing g.row.R l.w l.v l.k (slice l.i l.n (rows_of g.row.R l.a)) (take l.m (rows_of g.row.R l.b))
+    (pairs l.w (take l.n (rows_of g.row.R l.a)) (take l.m (rows_of g.row.R l.b)))

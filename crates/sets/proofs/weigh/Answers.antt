@@ -7,7 +7,7 @@ use borrow.Author.Rules.{rules}
 use Rattle.sets.proofs.weigh.Goals as goal
 
 pub returns-then-i-e : goal.returns-then-i-e
-returns-then-i-e c =
+returns-then-i-e g c =
     let a = c.args in
-    let R = rows_of a.r a.a.now in
-    rw (slice_at R a.i a.e (search rules) (omega (arith, length_rows_lem a.r a.a.now, c.requires))) c.order_rows.ensures
+    let R = rows_of g.row.R a.a.now in
+    rw (slice_at R a.i a.e (search rules) (omega (arith, length_rows_lem g.row.R a.a.now, c.requires))) c.order_rows.ensures

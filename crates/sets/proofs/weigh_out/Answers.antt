@@ -7,7 +7,7 @@ use borrow.Author.Rules.{rules}
 use Rattle.sets.proofs.weigh_out.Goals as goal
 
 pub returns-then-j-m : goal.returns-then-j-m
-returns-then-j-m c =
+returns-then-j-m g c =
     let a = c.args in
-    rw (slice_at (rows_of a.r a.b.now) a.j a.m (search rules) (omega (arith, length_rows_lem a.r a.b.now, c.requires.2)))
+    rw (slice_at (rows_of g.row.R a.b.now) a.j a.m (search rules) (omega (arith, length_rows_lem g.row.R a.b.now, c.requires.2)))
     c.order_rows.ensures

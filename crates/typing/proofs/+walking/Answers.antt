@@ -53,7 +53,7 @@ beside_part-returns t c =
     let i = rw c.place-2.ensures at c.head_at-h.ensures in
     record {
       told
-          = rw (c.joined.ensures, c.fault_after-notes.ensures, c.right_states-right.ensures, c.place-3.ensures)
+          = rw (c.joined.ensures, c.fault_after-notes.ensures, c.right_states-apart.ensures, c.place-3.ensures)
           (both_told _ _ _ _ _ c.requires _ ops _ c.in_ok-read_operands.was _ _ t1 c.walk-left.ensures.kept _ c.in-Ok.is _ _
           t2 c.walk-right.ensures.kept _ c.in-Ok-right.is _ i);
       kept
@@ -71,7 +71,7 @@ side-returns-then-depth-eq0-clause-told t c =
 
 pub side-returns : goal.side-returns
 side-returns t c =
-    let none = no_parts _ _ (rw c.place-2.ensures at c.has_parts.ensures) c.if-has_parts.false in
+    let none = no_parts _ _ (rw c.place-2.ensures at c.shape_of.ensures) c.if-shape_of-ne0.false in
     let l = c.leaf.ensures in
     record {
       told = leaf_is_told _ _ _ _ _ c.requires.kept (omega arith) none _ c.if-depth-eq0.false _ l.read l.noted;
@@ -81,33 +81,33 @@ side-returns t c =
 pub walk-returns-then-s-place-clause-told : goal.walk-returns-then-s-place-clause-told
 walk-returns-then-s-place-clause-told t c = round_short _ _ _ _ _ _ _ _ c.loop-st.invariant (omega arith)
 
-pub walk-returns-then-d-eq0-clause-told : goal.walk-returns-then-d-eq0-clause-told
-walk-returns-then-d-eq0-clause-told t c =
-    rw c.place-then-d-eq0.ensures (round_deep _ _ _ _ _ _ _ _ c.loop-st.invariant (omega arith) c.if-d-eq0.true)
+pub walk-returns-then-depth-eq0-clause-told : goal.walk-returns-then-depth-eq0-clause-told
+walk-returns-then-depth-eq0-clause-told t c =
+    rw c.place-then-depth-eq0.ensures (round_deep _ _ _ _ _ _ _ _ c.loop-st.invariant (omega arith) c.if-depth-eq0.true)
 
 pub walk-loop-st-preserved-in-4 : goal.walk-loop-st-preserved-in-4
 walk-loop-st-preserved-in-4 t c =
     rw c.past-st.ensures
-    (round_not _ _ _ _ _ _ _ _ c.loop-st.invariant (omega arith) c.if-d-eq0.false (rw c.place-in-loop-st.ensures at c.in-4.is))
+    (round_not _ _ _ _ _ _ _ _ c.loop-st.invariant (omega arith) c.if-depth-eq0.false (rw c.place-in-loop-st.ensures at c.in-4.is))
 
-pub walk-returns-then-w-clause-told : goal.walk-returns-then-w-clause-told
-walk-returns-then-w-clause-told t c =
-    rw c.place-then-w.ensures
-    (round_stop _ _ _ _ _ _ _ _ c.loop-st.invariant (omega arith) c.if-d-eq0.false
-    (rw (rw c.place-in-loop-st.ensures at c.in-7.is) (beside_stops _ _ c.if-w.true)))
+pub walk-returns-then-way-clause-told : goal.walk-returns-then-way-clause-told
+walk-returns-then-way-clause-told t c =
+    rw c.place-then-way.ensures
+    (round_stop _ _ _ _ _ _ _ _ c.loop-st.invariant (omega arith) c.if-depth-eq0.false
+    (rw (rw c.place-in-loop-st.ensures at c.in-7.is) (beside_stops _ _ c.if-way.true)))
 
 pub walk-returns-in_default-left-clause-told : goal.walk-returns-in_default-left-clause-told
 walk-returns-in_default-left-clause-told t c =
     let code = get_or c.args.s.now c.place-in-loop-st.result 0 in
     let two = rw c.place-in-loop-st.ensures at (five_six code (omega arith) (omega arith)) in
-    round_off _ _ _ _ _ _ _ _ c.loop-st.invariant (omega arith) c.if-d-eq0.false two _ _
+    round_off _ _ _ _ _ _ _ _ c.loop-st.invariant (omega arith) c.if-depth-eq0.false two _ _
     (rw c.past.ensures at c.side-left.ensures.told) _ c.in_default-left.is
 
 pub walk-loop-st-preserved : goal.walk-loop-st-preserved
 walk-loop-st-preserved t c =
     let code = get_or c.args.s.now c.place-in-loop-st.result 0 in
     let two = rw c.place-in-loop-st.ensures at (five_six code (omega arith) (omega arith)) in
-    round_on _ _ _ _ _ _ _ _ c.loop-st.invariant (omega arith) c.if-d-eq0.false two _ _
+    round_on _ _ _ _ _ _ _ _ c.loop-st.invariant (omega arith) c.if-depth-eq0.false two _ _
     (rw c.past.ensures at c.side-left.ensures.told) _ c.in-Ok.is c.side-left.ensures.kept
 
 pub walk-returns-in_default : goal.walk-returns-in_default
@@ -122,9 +122,9 @@ walk-returns-in_default t c =
     let kept = c.loop-st.invariant.asked.kept in
     record {
       told
-          = round_told _ _ _ _ _ _ _ _ c.loop-st.invariant (omega arith) c.if-d-eq0.false _ _
-          (leaf_is_told _ _ _ _ _ kept (omega arith) none _ c.if-d-eq0.false _ l.read l.noted);
+          = round_told _ _ _ _ _ _ _ _ c.loop-st.invariant (omega arith) c.if-depth-eq0.false _ _
+          (leaf_is_told _ _ _ _ _ kept (omega arith) none _ c.if-depth-eq0.false _ l.read l.noted);
       kept
-          = kept_as _ _ _ _ _ _ _ _ c.loop-st.invariant (omega arith) c.if-d-eq0.false _ _
-          (leaf_is_kept _ _ _ _ _ kept (omega arith) none _ c.if-d-eq0.false _ l.read l.noted l.within);
+          = kept_as _ _ _ _ _ _ _ _ c.loop-st.invariant (omega arith) c.if-depth-eq0.false _ _
+          (leaf_is_kept _ _ _ _ _ kept (omega arith) none _ c.if-depth-eq0.false _ l.read l.noted l.within);
     }

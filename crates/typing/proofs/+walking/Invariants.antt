@@ -6,10 +6,10 @@ use Rattle.typing.proofs.+walking.Given as goal
 
 abbrev pub invariant-walk-loop-st : goal.invariant-walk-loop-st
 invariant-walk-loop-st l =
-    Round l.s l.notes l.st l.d l.w (walked l.s l.fn.way l.depth (tally_of l.fn.from l.initial.notes)) l.fn.way.level l.depth
+    Round l.s l.notes l.st l.depth l.way (walked l.s l.fn.way l.fn.depth (tally_of l.fn.st l.initial.notes)) l.fn.way.level l.fn.depth
 
 abbrev pub decreases-walk-loop-st : goal.decreases-walk-loop-st
-decreases-walk-loop-st l = l.d
+decreases-walk-loop-st l = l.depth
 
 abbrev pub decreases-beside_part : goal.decreases-beside_part
 decreases-beside_part l = 4 * l.depth + 2

@@ -10,6 +10,6 @@ returns c =
     let h = c.requires in
     let s = c.slot_range-3.ensures in
     rowed (back _ s _ c.put_row.new.w h.0 c.told-work c.put_row.auto.w) s (omega arith)
-    (c.mix_rows-p.ensures
-    ∙ ap₂ (λ (p q : Packet). mix c.args.w p q) (lent_packet _ c.slot_range.ensures _ _) (lent_packet _ c.slot_range-2.ensures _ _))
+    (c.mixed-p.ensures ∙ ap₂ (λ (p q : Packet). mix c.args.w p q) (c.row.ensures ∙ lent_packet _ c.slot_range.ensures _ _)
+    (c.row-2.ensures ∙ lent_packet _ c.slot_range-2.ensures _ _))
     c.put_row.ensures

@@ -8,4 +8,4 @@ returns c =
     let h = c.requires in
     let s = c.slot_range-2.ensures in
     rowed (back _ s _ c.put_row.new.w h.0 c.told-work c.put_row.auto.w) s h.1
-    (c.row-p.ensures ∙ lent_packet _ c.slot_range.ensures _ _) c.put_row.ensures
+    (c.row.ensures ∙ lent_packet _ c.slot_range.ensures _ _) c.put_row.ensures

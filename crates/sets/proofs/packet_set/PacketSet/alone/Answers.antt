@@ -13,5 +13,5 @@ invariant_of-result c = record { packed = (held_one none_held c.put_row.ensures)
 pub returns : goal.returns
 unfolding less
 returns c =
-    let bare = rw c.from.ensures at c.bare_row-bare.ensures in
+    let bare = rw c.from.ensures at c.bare-bare.ensures in
     record { same = (held_as (held_one none_held c.put_row.ensures) (ap (λ (x : Packet). x ∷ []) bare)).same; fields = refl }
