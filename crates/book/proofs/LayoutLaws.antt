@@ -1,17 +1,13 @@
 -- The test 4 as the code makes it, entry by entry.
 use Prim.Native.Nat.{ℕ, suc, ◌+◌, ◌-◌, ◌<◌, ◌≤◌}
 use native.Mathlib.Omega.{arith}
-use native.Mathlib.Nat.{sub-zero}
 use mathlib.Core.Path.{◌≡◌, ◌∙◌}
 use mathlib.Core.Bool.{Bool, true, false, ◌&&◌}
 use mathlib.Core.List.{List}
 use Rattle.rules.specs.Books.{masks_fit}
-use Rattle.rules.specs.Reading.{fields_of, tables_of, reads_at, writes_at, masks_right}
+use Rattle.rules.specs.Reading.{fields_of, reads_at, writes_at, masks_right}
 
 -- the masks of the entries from x on
-pub masks_start : (s : List ℕ) (m : ℕ) → m ≡ tables_of s → masks_right s (suc (tables_of s)) 0 ≡ masks_right s (suc m - 0) 0
-masks_start s m e = rw (e, sub-zero)
-
 module _ (s : List ℕ) (n x : ℕ) where
   pub masks_end : n ≤ x → masks_right s (n - x) x ≡ true
   unfolding masks_right

@@ -152,14 +152,14 @@ module _ (s : List ℕ) (k m at : ℕ) where
   -- ---- the reading
   module _ (code : ℕ) where
     abbrev Read : Result ℕ ℕ → Type 0
-    Read r = (r ≡ read_operands s k m code at) × Within (length s) r
+    Read r = record { read : r ≡ read_operands s k m code at; within : Within (length s) r }
 
     pub read_past : length s ≤ at → Read (Err (length s))
     unfolding Within
     read_past h =
         let none_left : operands_wrong k m code (operands_at s code at) ≡ math.none
         = ap (operands_wrong k m code) (none_there s (operands_of code) (at + 1) (omega arith)) ∙ empty_right k m code in
-        (sym (operands_cut s k m code at (omega arith) none_left), omega arith)
+        record { read = sym (operands_cut s k m code at (omega arith) none_left); within = omega arith }
 
     pub read_wrong : (p : ℕ) (o : Option ℕ) → o ≡ Some p → Judges code o → Read (Err p)
     unfolding WrongPlace Within
@@ -170,7 +170,7 @@ module _ (s : List ℕ) (k m at : ℕ) where
         go (math.some i) e w =
             let n : Some p ≡ Some (at + 1 + i) = sym eo ∙ w.0 in
             let ep : p ≡ at + 1 + i = cc in
-            rw ep (sym (operands_wrong_lem s k m code at i e), w.1)
+            rw ep (record { read = sym (operands_wrong_lem s k m code at i e); within = w.1 })
 
     module _ (o : Option ℕ) (z : o ≡ None) (w : Judges code o) (x : Shape) (ex : x ≡ shape_at code) where
       none_wrong : operands_wrong k m code (operands_at s code at) ≡ math.none
@@ -184,8 +184,8 @@ module _ (s : List ℕ) (k m at : ℕ) where
 
       pub read_cut : length s < at + 1 + x.operands → Read (Err (length s))
       unfolding Within
-      read_cut h = (sym (operands_cut s k m code at (rw ex at h) none_wrong), omega arith)
+      read_cut h = record { read = sym (operands_cut s k m code at (rw ex at h) none_wrong); within = omega arith }
 
       pub read_next : at + 1 + x.operands ≤ length s → Read (Ok (at + 1 + x.operands))
       unfolding Within
-      read_next h = rw ex (sym (operands_next s k m code at (rw ex at h) none_wrong), rw ex at h)
+      read_next h = rw ex (record { read = sym (operands_next s k m code at (rw ex at h) none_wrong); within = rw ex at h })

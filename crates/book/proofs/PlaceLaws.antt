@@ -15,9 +15,6 @@ use Rattle.rules.proofs.ReadingLaws.{row_small}
 
 -- x is the row of the code
 module _ (c : ℕ) (x : Shape) (e : x ≡ shape_at c) where
-  pub operands_few : x.operands ≤ 3
-  operands_few = rw e (row_small c).0
-
   pub parts_few : x.parts ≤ 2
   parts_few = rw e (row_small c).1
 

@@ -9,7 +9,7 @@ ghost use Rattle.rules.specs.Reading.{number_at, length_at, reads_at, writes_at,
 ghost use Rattle.rules.specs.Reading.{field_wrong, masks_wrong, table_wrong, operands_wrong, operands_at, read_operands};
 ghost use Rattle.book.specs.Operands.{WrongPlace, Within};
 
-use rules::{BESIDE, Head, MOST_BYTES, MOST_FIELDS, MOST_TABLES, SET, TABLE, TEST};
+use rules::{BESIDE, Head, ID, MOST_BYTES, MOST_FIELDS, MOST_TABLES, SET, TABLE, TEST};
 
 // The byte at a place, 0 past the end.
 pub fn byte_at(s: &[u8], at: usize) -> u8
@@ -35,7 +35,7 @@ pub fn head_at(s: &[u8], at: usize) -> Head
 {
     if s.len() <= at {
         return Head {
-            code: 0,
+            code: ID,
             field: 0,
             value: 0,
             left: 0,
@@ -115,8 +115,8 @@ fn operand_wrong(s: &[u8], code: u8, at: usize) -> Option<usize>
 // The operands of a code that stands at a place, judged together: where they end, the place of the first that cannot stand, or the
 // end of the bytes where they are cut.
 pub fn read_operands(s: &[u8], code: u8, at: usize) -> Result<usize, usize>
-    ensures { (result ≡ read_operands s.now (fields_of s.now) (tables_of s.now) code at)
-        × Within (length s.now) result }
+    ensures read { result ≡ read_operands s.now (fields_of s.now) (tables_of s.now) code at }
+    ensures within { Within (length s.now) result }
 {
     if s.len() <= at {
         return Err(s.len());
@@ -124,12 +124,8 @@ pub fn read_operands(s: &[u8], code: u8, at: usize) -> Result<usize, usize>
     if let Some(wrong) = operand_wrong(s, code, at) {
         return Err(wrong);
     }
-    let shape = rules::shape_of(code);
-    let end = at + 1 + shape.operands;
-    if s.len() < end {
-        return Err(s.len());
-    }
-    Ok(end)
+    let end = at + 1 + rules::shape_of(code).operands;
+    if s.len() < end { Err(s.len()) } else { Ok(end) }
 }
 
 // The place after the part at a place, at most depth deep. Past the end and below the depth stands nothing.

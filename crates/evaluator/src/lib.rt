@@ -17,11 +17,11 @@ ghost use Rattle.evaluator.specs.Work.{after_two, Fair, NotWide, Did, Small, See
 ghost use Rattle.evaluator.specs.Passing.{Passable, Passes, Weighs};
 
 use rows::MOST;
-use rules::{Head, Outcome, Reason, Refusal, Sizes};
+use rules::{
+    BESIDE, DROP, Head, MOST_DEPTH, NOT, Outcome, Reason, Refusal, SEQUENCE, SET, SUM, Sizes,
+    TABLE, TEST,
+};
 use sets::{PacketSet, Row, TooWide};
-
-// How deep the parts of a body lie at most.
-const DEPTH: usize = 32;
 
 // Where a part stands: in the body of the main policy, or in a table's, where no table is used.
 #[derive(Clone, Copy, Debug, PartialEq, Eq)]
@@ -248,7 +248,7 @@ fn walk_packets(
         return Ok(none_at(book, head.from, depth));
     }
     let row = set.packet(i);
-    let first = one_packet(book, body, head, depth, &row, out)?;
+    let first = one_packet(book, body, head, depth, row, out)?;
     if i + 1 == set.count {
         return Ok(first);
     }
@@ -272,7 +272,7 @@ fn beside_at(
         (packets set.old) (after_two book.now depth head.from) (packets set.new) result }
 {
     if set.count == 1 {
-        let row = set.packet(0);
+        let row = *set.packet(0);
         set.clear();
         return one_packet(book, body, head, depth, &row, set);
     }
@@ -298,7 +298,7 @@ fn table_at(
         Body::Table => Ok(leaf(0, next)),
         Body::Main => {
             let start = book::body_start(book, table);
-            let part = evaluate_part(book, Body::Table, start, DEPTH, set)?;
+            let part = evaluate_part(book, Body::Table, start, MOST_DEPTH, set)?;
             Ok(table_of(part, next))
         }
     }
@@ -323,14 +323,14 @@ fn evaluate_part(
     let head = book::head_at(book, at);
     let below = depth - 1;
     match head.code {
-        1 => Ok(drop_of(set, head.from)),
-        2 => Ok(test_of(head.field, head.value, set, head.from)),
-        3 => Ok(set_of(head.field, head.value, set, head.from)),
-        4 => not_at(book, body, head.from, below, set),
-        5 => sum_at(book, body, head.from, below, set),
-        6 => seq_at(book, body, head.from, below, set),
-        7 => beside_at(book, body, head, below, set),
-        8 => table_at(book, body, head.table, head.from, set),
+        DROP => Ok(drop_of(set, head.from)),
+        TEST => Ok(test_of(head.field, head.value, set, head.from)),
+        SET => Ok(set_of(head.field, head.value, set, head.from)),
+        NOT => not_at(book, body, head.from, below, set),
+        SUM => sum_at(book, body, head.from, below, set),
+        SEQUENCE => seq_at(book, body, head.from, below, set),
+        BESIDE => beside_at(book, body, head, below, set),
+        TABLE => table_at(book, body, head.table, head.from, set),
         _ => Ok(leaf(0, head.from)),
     }
 }
@@ -353,7 +353,7 @@ fn look_part(book: &[u8], at: usize, depth: usize) -> Option<usize>
         return Some(at);
     }
     let head = book::head_at(book, at);
-    if head.code == 8 {
+    if head.code == TABLE {
         return look_table(book, head.table, head.from);
     }
     match rules::shape_of(head.code).parts {
@@ -383,7 +383,7 @@ fn names_open(book: &[u8]) -> bool
     requires { IsAccepted book.now }
     ensures { result ≡ names_open (main_of book.now) }
 {
-    !all_populated(book) && look_part(book, book::body_start(book, 0), DEPTH).is_none()
+    !all_populated(book) && look_part(book, book::body_start(book, 0), MOST_DEPTH).is_none()
 }
 
 // One packet through the main policy of an accepted book, in a set that has it alone: the packets that it gives are left there.
@@ -396,7 +396,7 @@ fn pass(book: &[u8], packet: &[u16], set: &mut PacketSet) -> Result<Weight, Reas
         return Err(Reason::Unpopulated);
     }
     let start = book::body_start(book, 0);
-    let w = evaluate_part(book, Body::Main, start, DEPTH, set)?;
+    let w = evaluate_part(book, Body::Main, start, MOST_DEPTH, set)?;
     Ok(Weight {
         count: set.count,
         steps: w.steps,

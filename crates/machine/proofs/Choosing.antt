@@ -9,7 +9,6 @@ use lib.ListN.{length, drop, get_or}
 use lib.Seq.{get_or-take, get_or-drop, get_or-append-add}
 use Rattle.rules.specs.States.{Tree, placed, done, waiting, negated, both, next, ready, live, move, run}
 use Rattle.rules.proofs.Choose.{readies, ready_count, step_at, move_at}
-use Rattle.steps.specs.Standing.{Readable}
 use Rattle.links.specs.Nets.{waits, keeps, Net, rest, over, one, two, above, bare, root, foot, is_over, ready_of, AllShow, AllShowIn, Frame}
 use Rattle.links.specs.Nets.{plug}
 use Rattle.links.specs.Nets.{up_of, foot_in, lefts, rights, times, Prime, rests, single, double}
@@ -102,7 +101,7 @@ module _ (s w : List ℕ) (n r : ℕ) (t : Tree) (H : Holds s w n r t) (room : l
         move_at j t (omega arith) ∙ ap (step_at t) e ∙ ap (λ (y : Tree). step_at y (length (lefts c))) d
         ∙ local_step c (numbered (move 0 (bare x))) (prime_own F.own) (bare_numbered (move 0 (bare x)))
 
-    module _ (readable : Readable s) (playable : Playable s t) where
+    module _ (playable : Playable s t) where
       after : Fit s (bare (plug c (numbered (move 0 (bare x))))) × (live (bare (plug c (numbered (move 0 (bare x))))) ≤ positions)
       unfolding run
       after = rw step_is at (playable (j ∷ []))
@@ -129,7 +128,6 @@ module _ (s w : List ℕ) (n r : ℕ) (t : Tree) (H : Holds s w n r t) (room : l
               live_foot y,
               ap live (bare_numbered (move 0 (bare x))),
             );
-            readable = readable;
           }
 
       pub can_pick : Stepping s w n i
@@ -162,7 +160,7 @@ module _ (s w : List ℕ) (n r b : ℕ) (A : Advancing s w n r) (room : length w
 
   module _ (i : ℕ) (goes : r ≡ 0 → ⊥) (ei : i ≡ get_or w (ready_from + b % r) 0) where
     pub can_choose : Stepping s w n i
-    can_choose = can_pick s w n r A.tree A.holds room (b % r) i (picks b r goes) ei A.readable A.playable
+    can_choose = can_pick s w n r A.tree A.holds room (b % r) i (picks b r goes) ei A.playable
 
     module _ (v : List ℕ) (m : ℕ) (offer : Ready) (up : ℕ) (S : Stepped s w v n m i offer) (eu : up ≡ (header_at w i).up) where
       pub can_relist : Relisting v r (b % r) up offer

@@ -10,7 +10,6 @@ use Rattle.rules.specs.States.{Tree, done, next, ready, move, run}
 use Rattle.rules.proofs.Measures.{rest}
 use Rattle.rules.proofs.Schedules.{View, over, going, view, finished, ran}
 use Rattle.rules.proofs.Choose.{ready_count}
-use Rattle.steps.specs.Standing.{Readable}
 use Rattle.area.specs.Words.{area_words}
 use Rattle.steps.specs.State.{Holds}
 use Rattle.steps.proofs.Refining.{listed_all}
@@ -56,9 +55,8 @@ module _ (s v : List ℕ) (n r k : ℕ) (t : Tree) (bs : List ℕ) (p : Playing 
   after_rest : rest after ≡ rest t - k
   after_rest = (ran (take k bs) t).left ∙ ap (λ (x : ℕ). rest t - x) (length-take-le k bs p.read)
 
-  pub can_advance : Readable s → Playable s t → Advancing s v n r
-  can_advance readable playable = record {
-    readable = readable;
+  pub can_advance : Playable s t → Advancing s v n r
+  can_advance playable = record {
     tree = after;
     holds = p.holds;
     playable = λ cs. rw (run_more (take k bs) cs t) at (playable (take k bs ++ cs));

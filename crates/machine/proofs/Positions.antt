@@ -14,7 +14,7 @@ use Rattle.rules.specs.States.{Spot, on, moved, losing, placed, done, finish, pl
 use Rattle.rules.specs.States.{next, live, move}
 use Rattle.rules.proofs.ReadingLaws.{head_is}
 use Rattle.rows.proofs.Chunks.{length_chunks}
-use Rattle.steps.specs.Standing.{part_of, Runnable, Readable}
+use Rattle.steps.specs.Standing.{part_of, Runnable}
 use Rattle.steps.proofs.Standing.{inside, part_id, seq_below}
 use Rattle.links.specs.Nets.{waits, keeps, Net, above, bare, root, foot, node_of, AllShow, Frame, under, left}
 use Rattle.links.specs.Nets.{right, fill, plug, times, Prime, rests, single, double}
@@ -116,7 +116,6 @@ pub record Near (s w : List ℕ) (n up : ℕ) (x : Net) : Type 0 where
   pub fit : Fit s (bare x)
   pub next : Fit s (move 0 (bare x))
   pub room : live (move 0 (bare x)) ≤ length (foot x) + n
-  pub readable : Readable s
 
 -- a set of the area, by its header's count
 slim_at : (w : List ℕ) (i : ℕ) (y : Packets) → set_at w i ≡ y → Slim y → ((header_at w i).count ≤ 16) × Ascending (set_at w i)
@@ -136,7 +135,6 @@ can_step {s} {w} {n} (rests {i = i} {o = o} {p = p} {s = y}) k =
       enters = λ _. record {
         entering = record {
           stands = st;
-          short = k.readable.short;
           there = l;
           few = omega (arith, k.few);
           once = k.once;
@@ -147,7 +145,6 @@ can_step {s} {w} {n} (rests {i = i} {o = o} {p = p} {s = y}) k =
         };
         acts = (acts s (header_at w i).place o y st (rw z.2 f.1)).0;
         single = (acts s (header_at w i).place o y st (rw z.2 f.1)).1;
-        readable = k.readable;
       };
       goes = λ g. omega (arith, ap word_of (sym z.0 ∙ g));
       takes = λ g. absurd (omega (arith, ap word_of (sym z.0 ∙ g)));
@@ -165,7 +162,6 @@ can_step {s} {w} {n} (single {i = i} {k = c} {h = waits o q} {s = y}) k =
       goes = λ g. omega (arith, ap word_of (sym z.0 ∙ g));
       takes = λ g. rw z.3 (record {
         stands = rw z.1 f.1.1;
-        short = k.readable.short;
         below = z.3;
         once = k.once;
         few = omega (arith, k.few);

@@ -8,7 +8,7 @@ use Rattle.rules.specs.declared.Head.{Head}
 use Rattle.rules.specs.Masks.{less}
 use Rattle.rules.specs.Packets.{Packet, Packets, without}
 use Rattle.rules.specs.Parts.{Part, Beside, size}
-use Rattle.rules.specs.Books.{most_bytes, most_depth}
+use Rattle.rules.specs.Books.{most_depth}
 use Rattle.rules.specs.Reading.{after}
 use Rattle.rules.specs.Reading as reading
 use Rattle.rules.specs.States.{Spot, Tree, placed, done, both, split, paired, place, enter, live}
@@ -24,7 +24,7 @@ use Rattle.area.specs.declared.lists.Ready.TheVariants.{Nobody, Pair}
 use Rattle.area.specs.Words.{positions, row_words, header_at, finished_head, slot_at, rows_at}
 use Rattle.area.specs.Words.{packet_at, free_list, Headed, Slotted, Rowed}
 use Rattle.area.proofs.Lending.{emptied}
-use Rattle.steps.specs.Standing.{part_of, join_of, Marked}
+use Rattle.steps.specs.Standing.{part_of, join_of, Runnable}
 use Rattle.steps.specs.State.{two_ready, shown_by, Spares, Becomes, Makes, Offers, offers, Laying, Laid, entering, Turned, Entering}
 use Rattle.steps.proofs.Standing.{inside, beside_below}
 use Rattle.steps.proofs.Changes.{becomes, below_one, below_small, times_one, slotted_slots, slotted_spares, slotted_free, slotted_ready}
@@ -102,9 +102,6 @@ module _ {s w : List ℕ} {n i : ℕ} (h : Entering s w n i 7) where
   is_whole : part_of s pl ≡ whole
   is_whole = (beside_below h.stands h.reads).0
 
-  pub beside_near : pl < most_bytes
-  beside_near = omega (arith, inside h.stands, h.short)
-
   -- its head, read where the position says that it stands
   pub beside_head : {p : Header} {o : Head} → p ≡ header_at w i → o ≡ reading.head_at s p.place → BesideHead s pl o
   beside_head e d =
@@ -115,9 +112,9 @@ module _ {s w : List ℕ} {n i : ℕ} (h : Entering s w n i 7) where
         from = ap (λ (x : Head). x.from) k ∙ rw h.reads (omega arith);
       }
 
-  -- the table of ends has the place of its second part
-  pub beside_marked : {m : List ℕ} {from z : ℕ} → Marked s m → from ≡ pl + 3 → z ≡ get_or m from 0 → z ≡ q
-  beside_marked k e d = (rw e at d) ∙ k.ends _ (beside_below h.stands h.reads).1.left
+  -- its first part stands in the book
+  pub beside_first : Runnable s (pl + 3)
+  beside_first = (beside_below h.stands h.reads).1.left
 
   abbrev spot : ℕ → ℕ → Spot
   spot at f = record { at = at; fields = f }
@@ -228,8 +225,7 @@ module _ {s w : List ℕ} {n i : ℕ} (h : Entering s w n i 7) where
 
       pub first_lays : Laying s v₂ (n - 2) l (pl + 3) l 1
       first_lays = record {
-        stands = (beside_below h.stands h.reads).1.left;
-        short = h.short;
+        stands = beside_first;
         there = first_small;
         few = omega (arith, h.few);
         once = λ k. rw (free_kept (n - 2) (omega (arith, h.few))) (omega (arith, free_both k, h.once k));
@@ -258,7 +254,6 @@ module _ {s w : List ℕ} {n i : ℕ} (h : Entering s w n i 7) where
         pub second_lays : Laying s v₃ m r q r 1
         second_lays = record {
           stands = (beside_below h.stands h.reads).1.right;
-          short = h.short;
           there = second_small;
           few = omega (arith, h.few, (L 0).makes.size);
           once = λ k. omega (arith, (L 0).makes.count k, free_both k, h.once k, ap (times k) (free_kept (n - 2) (omega (arith, h.few))));

@@ -13,7 +13,7 @@ use Rattle.rules.specs.Reading.{fields_of, body_start, main_of}
 use Rattle.rules.specs.States.{place, run}
 use Rattle.rules.specs.Answers.{start_spot, start_set, start}
 use Rattle.rows.specs.Chunks.{chunks}
-use Rattle.steps.specs.Standing.{part_of, Runnable, Readable}
+use Rattle.steps.specs.Standing.{part_of, Runnable}
 use Rattle.links.specs.Nets.{ready_of, plug, up_of, foot_in, AllShowIn, lefts, rights, news, same, times}
 use Rattle.links.proofs.Times.{same_self, same_other, times_append}
 use Rattle.links.proofs.Plugging.{held_kept}
@@ -71,7 +71,7 @@ module _ (v u : List ℕ) (n : ℕ) (l : n < (positions - 1)) (f : Freed v n) (g
 
 -- ---- the main policy is placed at number 0
 
-module _ (s packet v₁ v₂ : List ℕ) (b : Readable s) (st : Runnable s (body_start s 0)) (pl : Playable s (start s packet))
+module _ (s packet v₁ v₂ : List ℕ) (st : Runnable s (body_start s 0)) (pl : Playable s (start s packet))
     (F : Freed v₁ (positions - 1)) (R : Rowed v₁ v₂ 0 0 (padded packet)) where
   rows_there : rows_at v₂ 0 1 ≡ start_set packet
   unfolding chunks
@@ -94,7 +94,6 @@ module _ (s packet v₁ v₂ : List ℕ) (b : Readable s) (st : Runnable s (body
   unfolding start run
   start_lays = record {
     stands = st;
-    short = b.short;
     there = omega arith;
     few = omega arith;
     once = once_root;

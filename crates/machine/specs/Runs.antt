@@ -3,7 +3,7 @@ use Rattle.std.specs.Prelude.{ℕ, ◌≤◌, ◌≡◌, List, length}
 use Rattle.rules.specs.Packets.{Packets, Ascending, most_packets}
 use Rattle.rules.specs.Parts.{Part}
 use Rattle.rules.specs.States.{Spot, Tree, placed, done, waiting, negated, both, place, live, move, run, made}
-use Rattle.steps.specs.Standing.{part_of, Runnable, Readable}
+use Rattle.steps.specs.Standing.{part_of, Runnable}
 use Rattle.area.specs.Words.{positions}
 use Rattle.steps.specs.State.{Holds}
 
@@ -29,7 +29,6 @@ Playable s t = (bs : List ℕ) → Fit s (run t bs) × (live (run t bs) ≤ posi
 
 -- one choice: the words hold a state, and all that choices make of it fits
 pub record Advancing (s w : List ℕ) (n r : ℕ) : Type 0 where
-  pub readable : Readable s
   pub tree : Tree
   pub holds : Holds s w n r tree
   pub playable : Playable s tree

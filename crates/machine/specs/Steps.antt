@@ -1,7 +1,6 @@
 -- A step at a position: what it asks of the words, by the position's phase, and what they hold afterwards.
 use Rattle.std.specs.Prelude.{ℕ, true, ◌≤◌, ◌<◌, ◌≡◌, List, [], ◌∷◌, get_or}
 use Rattle.rules.specs.States.{move}
-use Rattle.steps.specs.Standing.{Readable}
 use Rattle.links.specs.Nets.{Net, bare, root, foot, AllShow, Prime}
 use Rattle.area.specs.declared.headers.Phase.TheVariants.{Placed as placed_phase, Finished as finished_phase, Waiting as waiting_phase, Negated as negated_phase}
 use Rattle.area.specs.declared.lists.Ready.{Ready}
@@ -17,7 +16,6 @@ pub record Placed (s w : List ℕ) (n i : ℕ) : Type 0 where
   pub entering : Entering s w n i (code_at s w i)
   pub acts : 0 < code_at s w i
   pub single : code_at s w i ≡ 6 → ⊥
-  pub readable : Readable s
 
 -- number i is placed, or above finished ones
 pub record Stepping (s w : List ℕ) (n i : ℕ) : Type 0 where

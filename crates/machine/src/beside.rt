@@ -1,41 +1,30 @@
 // p beside q: on no packet finished with none; on one its two sides; on more the lowest packet and the rest, each under this same part.
 ghost use Rattle.std.specs.Prelude.{ℕ, ◌≡◌, List};
 ghost use Rattle.area.specs.Words.{header_at};
-ghost use Rattle.steps.specs.Standing.{Marked};
 ghost use Rattle.steps.specs.State.{Entering};
 ghost use Rattle.machine.specs.Steps.{Entered, Splitting};
 
 use area::{
     Header, Phase, Ready, Words, bare_packet, copy_packets, finish, head, put_head, take_free,
 };
-use steps::{Turn, end_at, ended, lay, lay_leaf, two_ready};
+use steps::{MarkedBook, Turn, ended, lay, lay_leaf, two_ready};
 
 // On one packet: p without the fields that q writes, q without those that p writes, in two positions below i.
-fn enter_sides(book: &[u8], ends: &[u16], work: &mut Words, n: usize, i: usize) -> Turn
-    requires { Entering book.now work.old n i 7 × ((header_at work.old i).count ≡ 1) × Marked book.now ends.now }
+fn enter_sides(book: &MarkedBook, work: &mut Words, n: usize, i: usize) -> Turn
+    requires { Entering book.now work.old n i 7 × ((header_at work.old i).count ≡ 1) }
     ensures { Entered book.now work.old work.new n result.free i result.ready }
 {
     let h = head(work, i);
-    let part = book::head_at(book, h.place as usize);
+    let part = book.head_at(h.place as usize);
     let l = take_free(work, n);
     let r = take_free(work, n - 1);
     let first = l as usize;
     let second = r as usize;
     bare_packet(work, i, first, part.right as u16);
     bare_packet(work, i, second, part.left as u16);
-    let q = end_at(ends, part.from) as usize;
-    let x = lay(
-        book,
-        ends,
-        work,
-        n - 2,
-        first,
-        i as u16,
-        part.from,
-        first,
-        1,
-    );
-    let y = lay(book, ends, work, x.free, second, i as u16, q, second, 1);
+    let q = book.end_at(part.from) as usize;
+    let x = lay(book, work, n - 2, first, i as u16, part.from, first, 1);
+    let y = lay(book, work, x.free, second, i as u16, q, second, 1);
     let above = Header {
         phase: Phase::Paired,
         count: 0,
@@ -87,8 +76,8 @@ fn enter_split(work: &mut Words, n: usize, i: usize) -> Turn
 }
 
 // The step of a placed p beside q.
-pub fn enter_beside(book: &[u8], ends: &[u16], work: &mut Words, n: usize, i: usize) -> Turn
-    requires { Entering book.now work.old n i 7 × Marked book.now ends.now }
+pub fn enter_beside(book: &MarkedBook, work: &mut Words, n: usize, i: usize) -> Turn
+    requires { Entering book.now work.old n i 7 }
     ensures { Entered book.now work.old work.new n result.free i result.ready }
 {
     let h = head(work, i);
@@ -97,7 +86,7 @@ pub fn enter_beside(book: &[u8], ends: &[u16], work: &mut Words, n: usize, i: us
             finish(work, i, h.up, 0);
             ended(n)
         }
-        1 => enter_sides(book, ends, work, n, i),
+        1 => enter_sides(book, work, n, i),
         _ => enter_split(work, n, i),
     }
 }

@@ -7,6 +7,7 @@ ghost use Rattle.machine.specs.Answered.{words_of};
 
 use area::{POSITIONS, Words};
 use rules::{Finish, Progress, Ran};
+use steps::MarkedBook;
 
 // Steps made, and the free and the ready numbers then.
 #[derive(Clone, Copy)]
@@ -18,7 +19,7 @@ pub struct End {
 
 // Finished where nothing is ready, with the set of the only position, number 0, written out.
 pub fn answer(
-    book: &[u8],
+    book: &MarkedBook,
     packet: &[u16],
     schedule: &[u8],
     res: &mut [u16],
@@ -33,7 +34,7 @@ pub fn answer(
 {
     if c.ready == 0 {
         let h = area::head(work, 0);
-        let k = book::byte_at(book, 0) as usize;
+        let k = book::byte_at(book.bytes(), 0) as usize;
         let count = h.count as usize;
         area::emit_packets(work, 0, count, k, res);
         return Ran::Finished(Finish {

@@ -2,7 +2,7 @@
 ghost use Rattle.std.specs.Prelude.{◌-◌, ◌*◌, ◌≤◌, ◌≡◌, length, replicate};
 ghost use Rattle.rules.specs.Reading.{body_start, fields_of};
 ghost use Rattle.rules.specs.Answers.{start, stop_of, result_run};
-ghost use Rattle.steps.specs.Standing.{Runnable, Readable, Marked};
+ghost use Rattle.steps.specs.Standing.{Runnable, Readable};
 ghost use Rattle.area.specs.Words.{positions, area_words};
 ghost use Rattle.steps.specs.State.{Holds};
 ghost use Rattle.machine.specs.Runs.{Playable, Played};
@@ -11,7 +11,8 @@ ghost use Rattle.machine.specs.Answered.{words_of, Freed};
 use crate::advance::{Tally, advance};
 use crate::ends::{End, answer};
 use area::{NOBODY, POSITIONS, Ready, Words};
-use rules::Ran;
+use rules::{MOST_BYTES, Ran};
+use steps::MarkedBook;
 
 // The numbers but 0, the root's, given to the free list, the highest first.
 fn free_all(work: &mut Words)
@@ -23,18 +24,17 @@ fn free_all(work: &mut Words)
 }
 
 // The area made ready, and the main policy placed on the packet.
-fn set_up(book: &[u8], ends: &[u16], packet: &[u16], work: &mut Words) -> Tally
-    requires policy { Readable book.now × Runnable book.now (body_start book.now 0)
-        × Playable book.now (start book.now packet.now) }
-    requires buffers { (length packet.now ≤ 8) × Marked book.now ends.now }
+fn set_up(book: &MarkedBook, packet: &[u16], work: &mut Words) -> Tally
+    requires policy { Runnable book.now (body_start book.now 0) × Playable book.now (start book.now packet.now) }
+    requires words { length packet.now ≤ 8 }
     ensures { Holds book.now work.new result.free result.ready
         (start book.now packet.now) }
 {
     let p = rows::padded(packet);
     free_all(work);
     area::put_packet(work, 0, p);
-    let at = book::body_start(book, 0);
-    let o = steps::lay(book, ends, work, POSITIONS - 1, 0, NOBODY, at, 0, 1);
+    let at = book.body_start(0);
+    let o = steps::lay(book, work, POSITIONS - 1, 0, NOBODY, at, 0, 1);
     let ready = area::relist(work, 1, 0, NOBODY, Ready::from(o.ready));
     Tally {
         free: o.free,
@@ -43,15 +43,8 @@ fn set_up(book: &[u8], ends: &[u16], packet: &[u16], work: &mut Words) -> Tally
 }
 
 // The schedule's bytes in order, each a choice, until nothing is ready.
-fn play(
-    book: &[u8],
-    ends: &[u16],
-    packet: &[u16],
-    schedule: &[u8],
-    work: &mut Words,
-    first: Tally,
-) -> End
-    requires { Readable book.now × Marked book.now ends.now × Playable book.now (start book.now packet.now)
+fn play(book: &MarkedBook, packet: &[u16], schedule: &[u8], work: &mut Words, first: Tally) -> End
+    requires { Playable book.now (start book.now packet.now)
         × Holds book.now work.old first.free first.ready (start book.now packet.now) }
     ensures { Played book.now work.new result.free result.ready result.steps
         (start book.now packet.now) schedule.now }
@@ -65,7 +58,7 @@ fn play(
                 ready: c.ready,
             };
         }
-        c = advance(book, ends, work, c, *b);
+        c = advance(book, work, c, *b);
     }
     End {
         steps: schedule.len(),
@@ -74,7 +67,7 @@ fn play(
     }
 }
 
-// The run of a book and a packet that are admitted. The ends of its parts are marked once, a word for each of at most 4096 bytes.
+// The run of a book and a packet that are admitted. The ends of its parts are marked once, a word for each byte.
 pub fn conduct(
     book: &[u8],
     packet: &[u16],
@@ -90,11 +83,11 @@ pub fn conduct(
         (words_of book.now packet.now schedule.now) res.old)
         × (work.new ≡ replicate area_words 0) }
 {
-    let mut ends = [0u16; 4096];
-    steps::mark(book, &mut ends);
-    let first = set_up(book, &ends, packet, work);
-    let c = play(book, &ends, packet, schedule, work, first);
-    let r = answer(book, packet, schedule, res, work, c);
+    let mut ends = [0u16; MOST_BYTES];
+    let marked = MarkedBook::new(book, &mut ends);
+    let first = set_up(&marked, packet, work);
+    let c = play(&marked, packet, schedule, work, first);
+    let r = answer(&marked, packet, schedule, res, work, c);
     work.fill(0);
     r
 }

@@ -13,14 +13,12 @@ ghost use Rattle.printer.specs.Building.{HasBook, Asks, ran_text};
 use area::AREA_WORDS;
 use arrayvec::ArrayVec;
 use lines::{finished, refused, running};
-use rules::{Ran, Reason, Refusal, Sizes};
+use rules::{MOST_BYTES, Ran, Reason, Refusal, Sizes};
 use std::io;
 use std::io::{Read, Write};
 use text::Text;
 
-// The longest book and schedule that are read.
-const MOST_BYTES: usize = 4096;
-
+// The longest schedule that is run.
 const MOST_CHOICES: usize = 8192;
 
 // As much of the input as decides what is printed: 2 + 4,096 + 16 + 8,193 bytes.

@@ -92,9 +92,6 @@ module _ (r n k : ℕ) (w x : List ℕ) (h : k < n) (l : n * r ≤ length w) (m 
 pub row_fits : (i r : ℕ) → i < 16 → i * r + r ≤ 16 * r
 row_fits i r h = rw suc-mul at (mul-le-mul_right r h)
 
-pub row_small : (i r : ℕ) → i < 16 → r ≤ 16 → i * r ≤ 256
-row_small i r h l = omega (arith, row_fits i r h)
-
 -- the rows as the library cuts them
 cut_chunks : (r n : ℕ) (v : List ℕ) → first_chunks r n v ≡ chunks r n v
 unfolding chunks

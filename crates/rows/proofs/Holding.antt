@@ -75,9 +75,6 @@ held_one {r} {w} {w₀} {x} k s =
     s.rows ∙ ap (λ (l : Packets). set l 0 x) c in
     fronted 1 (x ∷ []) s.array k (omega arith) refl e (tt, tt)
 
-pub copied_start : {r : ℕ} {w v : List ℕ} → Array r w → Copied r w w v 0
-copied_start a = record { array = a; rows = refl }
-
 pub copied_next : {r : ℕ} {w' w w₀ v : List ℕ} (i : ℕ) → i < 16 → Copied r w w₀ v i → Stored r w' w i (get_or (rows_of r v) i [])
     → Copied r w' w₀ v (i + 1)
 copied_next {r} {w'} {w} {w₀} {v} i h c s =

@@ -2,7 +2,7 @@
 // is an array, which is read where it stands and moves as a whole.
 #![tactic(auto)]
 
-ghost use Rattle.std.specs.Prelude.{◌≡◌, cond, [], ◌++◌, ◌+◌, ◌*◌, ◌%◌, ◌<◌, ◌≤◌, length, take, drop, get_or};
+ghost use Rattle.std.specs.Prelude.{◌≡◌, cond, [], ◌++◌, ◌*◌, ◌<◌, ◌≤◌, length, take, drop, get_or};
 ghost use Rattle.rules.specs.Packets.{places, most_packets, padded, order_of, passes, put, mix, without, values_of};
 ghost use Rattle.rules.specs.Masks.{has};
 ghost use Rattle.rows.specs.Chunks.{rows_of, widest, Array, Stored, Copied, Cleared};
@@ -59,49 +59,12 @@ pub fn clear_rows<const R: usize>(v: &mut [u16], k: usize, n: usize)
     v[k * R..n * R].fill(0);
 }
 
-// How the four values of p at a lie to those of q at b: field 0 first, then field 1, and so on.
-fn order4(p: &[u16], a: usize, q: &[u16], b: usize) -> Ordering
-    requires { (a + 4 ≤ length p.now) × (b + 4 ≤ length q.now) }
-    ensures { result ≡ order_of (take 4 (drop a p.now)) (take 4 (drop b q.now)) }
-{
-    let mut f = 0;
-    while f < 4 {
-        let x = p[a + f];
-        let y = q[b + f];
-        if x != y {
-            if x < y {
-                return Ordering::Less;
-            }
-            return Ordering::Greater;
-        }
-        f += 1;
-    }
-    Ordering::Equal
-}
-
-// The same of r values, four at a time.
-fn order_at(p: &[u16], a: usize, q: &[u16], b: usize, r: usize) -> Ordering
-    requires { (r % 4 ≡ 0) × (a + r ≤ length p.now) × (b + r ≤ length q.now) }
-    ensures { result ≡ order_of (take r (drop a p.now)) (take r (drop b q.now)) }
-{
-    let mut f = 0;
-    while f < r {
-        let o = order4(p, a + f, q, b + f);
-        match o {
-            Ordering::Less => return Ordering::Less,
-            Ordering::Greater => return Ordering::Greater,
-            Ordering::Equal => f += 4,
-        }
-    }
-    Ordering::Equal
-}
-
 // How row i of v lies to row j of w.
 pub fn order_rows<const R: usize>(v: &[u16], i: usize, w: &[u16], j: usize) -> Ordering
     requires { (i < most_packets) × (j < most_packets) × Array R v.now × Array R w.now }
     ensures { result ≡ order_of (get_or (rows_of R v.now) i []) (get_or (rows_of R w.now) j []) }
 {
-    order_row::<R>(row(v, i), w, j)
+    row::<R>(v, i).cmp(row(w, j))
 }
 
 // How a row by itself lies to row j.
@@ -109,7 +72,7 @@ pub fn order_row<const R: usize>(p: &[u16; R], w: &[u16], j: usize) -> Ordering
     requires { (j < most_packets) × Array R w.now }
     ensures { result ≡ order_of p.now (get_or (rows_of R w.now) j []) }
 {
-    order_at(p, 0, row::<R>(w, j), 0, R)
+    p.cmp(row(w, j))
 }
 
 // "test field = value" passes at row i.

@@ -151,9 +151,6 @@ pub record Sorting (r : ℕ) (w x : List ℕ) (j n k : ℕ) (whole : Packets) : 
   pub tail : drop j (rows_of r w) ≡ drop j (rows_of r x)
   pub same : union (take k (rows_of r w)) (slice j n (rows_of r x)) ≡ whole
 
-pub sorting_start : {r : ℕ} {v : List ℕ} (n : ℕ) → Array r v → Sorting r v v 0 n 0 (gathered (take n (rows_of r v)))
-sorting_start n a = record { array = a; below = omega arith; order = tt; tail = refl; same = refl }
-
 row_kept : (R X : Packets) (j : ℕ) → drop j R ≡ drop j X → get_or R j [] ≡ get_or X j []
 row_kept R X j e =
     let z : j + 0 ≡ j = omega arith in
@@ -225,9 +222,6 @@ module _ {r : ℕ} {w : List ℕ} {p : Packet} {k : ℕ} {left whole : Packets} 
 
 -- ---- a value written to a field of every row
 
-pub changed_start : {r : ℕ} {v : List ℕ} (g : Packet → Packet) → Array r v → Changed r v v 0 g
-changed_start g a = record { array = a; same = refl; tail = refl }
-
 pub changed_next : {r : ℕ} {w' w w₀ : List ℕ} (i : ℕ) (g : Packet → Packet) → i < 16 → Changed r w w₀ i g
     → Stored r w' w i (g (get_or (rows_of r w) i [])) → Changed r w' w₀ (i + 1) g
 changed_next {r} {w'} {w} {w₀} i g h a s =
@@ -250,14 +244,6 @@ module _ {r : ℕ} {w w₀ : List ℕ} {n : ℕ} {g : Packet → Packet} (a : Ch
     packed = record { array = a.array; room = q.room; zeros = a.tail ∙ q.zeros; order = h };
     same = sym (gathered_same (take n (rows_of r w)) h) ∙ ap gathered a.same;
   }
-
-  -- or they are gathered anew
-  pub changed_zeroed : Zeroed r w n
-  changed_zeroed = record { array = a.array; room = q.room; zeros = a.tail ∙ q.zeros }
-
-  pub changed_anew : {v : List ℕ} {k : ℕ} → Held r v k (gathered (take n (rows_of r w)))
-      → Held r v k (gathered (map g (take n (rows_of r w₀))))
-  changed_anew k = held_as k (ap gathered a.same)
 
 -- there is no such field
 put_out : (f x : ℕ) (p : Packet) → length p ≤ f → put f x p ≡ p

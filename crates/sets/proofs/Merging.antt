@@ -150,10 +150,6 @@ pub record Merging (r : ℕ) (w : List ℕ) (i e k : ℕ) (left whole : Packets)
   pub zeros : drop e (rows_of r w) ≡ replicate (16 - e) (blank r)
   pub same : take k (rows_of r w) ++ union (slice i e (rows_of r w)) left ≡ whole
 
-pub merging_start : {r : ℕ} {v : List ℕ} {h e m : ℕ} (t : Packets) → Apart r v h e m
-    → Merging r v h e 0 t (union (slice h e (rows_of r v)) t)
-merging_start t a = record { array = a.array; below = omega arith; upto = a.low; zeros = a.zeros; same = refl }
-
 first_less : (s : Packets) (y : Packet) → from_first s y ≡ Less → 0 < length s
 first_less [] y e = let z : ◌≡◌ {A = ℕ} 0 1 = cc in absurd (omega arith)
 first_less (x ∷ s) y e = omega arith

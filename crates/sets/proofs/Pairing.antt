@@ -1,6 +1,6 @@
 -- A loop over all pairings of two sets.
 use Prim.Native.Nat.{ℕ, ◌+◌, ◌≤◌, ◌<◌}
-use mathlib.Core.Path.{◌≡◌, refl, ap}
+use mathlib.Core.Path.{◌≡◌, ap}
 use mathlib.Core.List.{List, [], ◌∷◌, map}
 use native.Mathlib.Omega.{arith}
 use lib.ListN.{length, take, get_or, drop_of_length-le}
@@ -39,9 +39,6 @@ module _ (g : Packet → Packet) {r : ℕ} (y w₀ : List ℕ) {w : List ℕ} {k
 pub record Pairing (r w : ℕ) (v : List ℕ) (k : ℕ) (left t whole : Packets) : Type 0 where
   pub packed : Packed r v k
   pub same : pairs_into w (take k (rows_of r v)) left t ≡ whole
-
-pub pairing_start : {r : ℕ} {v : List ℕ} (w : ℕ) (s t : Packets) → Held r v 0 [] → Pairing r w v 0 s t (pairs_into w [] s t)
-pairing_start w s t k = record { packed = k.packed; same = refl }
 
 module _ {r w : ℕ} {v : List ℕ} (x : List ℕ) {k : ℕ} (n i : ℕ) (t : Packets) {whole : Packets} (q : Packed r x n)
     (a : Pairing r w v k (slice i n (rows_of r x)) t whole) where

@@ -1,6 +1,6 @@
 -- A list of rows with one row changed, and a loop that moves rows of an array to the front, past those that fall away.
 use Prim.Native.Nat.{ℕ, zero, suc, ◌+◌, ◌-◌, ◌≤◌, ◌<◌}
-use mathlib.Core.Path.{◌≡◌, refl, sym, ap, ◌∙◌}
+use mathlib.Core.Path.{◌≡◌, sym, ap, ◌∙◌}
 use mathlib.Core.Bool.{Bool, true, false}
 use mathlib.Core.List.{List, [], ◌∷◌, ◌++◌, append-nil}
 use native.Mathlib.Omega.{arith}
@@ -38,9 +38,6 @@ pub record Sliding (r : ℕ) (w x : List ℕ) (j k : ℕ) (left whole : Packets)
   pub array : Array r w
   pub tail : drop j (rows_of r w) ≡ drop j (rows_of r x)
   pub same : take k (rows_of r w) ++ left ≡ whole
-
-pub sliding_start : {r : ℕ} {x : List ℕ} (left : Packets) → Array r x → Sliding r x x 0 0 left left
-sliding_start left a = record { array = a; tail = refl; same = refl }
 
 module _ {r : ℕ} {w x : List ℕ} {j k : ℕ} {left whole : Packets} (a : Sliding r w x j k left whole) where
   pub sliding_row : j < 16 → get_or (rows_of r w) j [] ≡ get_or (rows_of r x) j []

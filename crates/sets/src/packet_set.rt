@@ -101,11 +101,11 @@ impl PacketSet {
     }
 
     // Packet i, a row by itself.
-    pub fn packet(&self, i: usize) -> Row
+    pub fn packet(&self, i: usize) -> &Row
         requires { i < self.now.count }
-        ensures { result ≡ get_or (packets self.now) i [] }
+        ensures { result.now ≡ get_or (packets self.now) i [] }
     {
-        *rows::row(&self.values, i)
+        rows::row(&self.values, i)
     }
 
     // The first k values of each packet, one packet after the other, at the front of a lent slice, if they fit there.

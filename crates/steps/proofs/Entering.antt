@@ -4,9 +4,9 @@ use native.Mathlib.Omega.{arith}
 use mathlib.Core.Path.{◌≡◌, refl, sym, ap, ◌∙◌}
 use mathlib.Core.List.{List, [], ◌∷◌, ◌++◌, map}
 use lib.ListN.{get_or}
-use Rattle.rules.specs.Packets.{Packets, passes, put, keep, gathered, most_packets}
+use Rattle.rules.specs.Packets.{Packets, passes, put, keep, gathered}
 use Rattle.rules.specs.Parts.{Part, Not, size}
-use Rattle.rules.specs.Books.{most_bytes, most_depth}
+use Rattle.rules.specs.Books.{most_depth}
 use Rattle.rules.specs.declared.Head.{Head}
 use Rattle.rules.specs.Codes.{operands_of}
 use Rattle.rules.specs.Reading as reading
@@ -23,11 +23,11 @@ use Rattle.area.specs.declared.headers.Phase.TheVariants.{Negated, Entered}
 use Rattle.area.specs.declared.lists.Ready.TheVariants.{Nobody}
 use Rattle.area.specs.Ready.{ready_of}
 use Rattle.area.specs.Words.{positions, row_words, header_at, finished_head, rows_at, free_list, Headed}
-use Rattle.area.specs.Words.{Filled, HasSet}
-use Rattle.steps.specs.Standing.{part_of, join_of, Runnable, Readable, Marked}
+use Rattle.area.specs.Words.{Filled}
+use Rattle.steps.specs.Standing.{part_of, join_of, Runnable, Readable}
 use Rattle.steps.specs.State.{two_ready, Laying, Laid, spot_at, part_at, set_at, entering, Turned, Entering}
 use Rattle.steps.proofs.Heads.{head_reads, from_next}
-use Rattle.steps.proofs.Standing.{inside, part_drop, part_test, part_set, sum_below, not_below, table_below}
+use Rattle.steps.proofs.Standing.{part_drop, part_test, part_set, sum_below, not_below, table_below}
 use Rattle.steps.proofs.Changes.{below_one, below_small, times_one, becomes}
 use Rattle.steps.proofs.Laying.{live_some}
 use Rattle.steps.proofs.Making.{over_made, over_turned, one_offer, two_turned, one_turned}
@@ -57,21 +57,9 @@ enter_leaf s at (suc (suc (suc zero))) o S e l u = rw (part_set s at e)
 enter_leaf s at (suc (suc (suc (suc code)))) o S e l u = absurd (omega arith)
 
 module _ {s w : List ℕ} {n i code : ℕ} (h : Entering s w n i code) where
-  pub enter_short : (header_at w i).place < most_bytes
-  enter_short = omega (arith, inside h.stands, h.short)
-
-  pub short_at : {H : Header} → H ≡ header_at w i → H.place < most_bytes
-  short_at e = rw e enter_short
-
   -- where the part below begins, by the header that was read
   pub from_at : {H : Header} {p : Head} → H ≡ header_at w i → p ≡ reading.head_at s H.place → operands_of code ≡ 0 → p.from ≡ H.place + 1
   from_at e q z = rw e (from_next h.stands (rw e at q) h.reads z)
-
-  pub slim_at : {H : Header} → H ≡ header_at w i → H.count ≤ most_packets
-  slim_at e = rw e h.slim
-
-  pub enter_set : HasSet w i (header_at w i).count
-  enter_set = record { there = h.there; slim = h.slim; rises = h.rises }
 
   pub leaf_turned : {v u : List ℕ} {k : ℕ} → 0 < code → code < 4 → Filled w v i k (out (part_at s w i) (set_at w i))
       → Headed v u i (finished_head (header_at w i).up k)
@@ -118,9 +106,9 @@ module _ (s w : List ℕ) (n i : ℕ) (h : Entering s w n i 5) where
   pub sum_room : 2 ≤ n
   sum_room = omega (arith, sum_live, some_left, some_right)
 
-  -- the table of ends has the place of its second part
-  pub sum_marked : {m : List ℕ} {z : ℕ} → Marked s m → z ≡ get_or m (at + 1) 0 → z ≡ after s most_depth (at + 1)
-  sum_marked k e = e ∙ k.ends _ (sum_below h.stands h.reads).1.left
+  -- its first part stands in the book
+  pub sum_first : Runnable s (at + 1)
+  sum_first = (sum_below h.stands h.reads).1.left
 
   module _ (l r : ℕ) (top : free_list w n ≡ free_list w (n - 1) ++ (l ∷ []))
       (second : free_list w (n - 1) ≡ free_list w (n - 1 - 1) ++ (r ∷ [])) where
@@ -143,8 +131,7 @@ module _ (s w : List ℕ) (n i : ℕ) (h : Entering s w n i 5) where
 
     pub left_lays : Laying s w (n - 2) l (at + 1) i count
     left_lays = record {
-      stands = (sum_below h.stands h.reads).1.left;
-      short = h.short;
+      stands = sum_first;
       there = small l (omega (arith, free_both l, times_one l l, same_self l));
       few = omega (arith, h.few);
       once = λ k. omega (arith, free_both k, h.once k);
@@ -164,7 +151,6 @@ module _ (s w : List ℕ) (n i : ℕ) (h : Entering s w n i 5) where
       pub right_lays : Laying s v₁ m₁ r q i count
       right_lays = record {
         stands = (sum_below h.stands h.reads).1.right;
-        short = h.short;
         there = small r (omega (arith, free_both r, times_one r r, same_self r));
         few = omega (arith, h.few, (L 0).makes.size);
         once = λ k. omega (arith, (L 0).makes.count k, free_both k, h.once k);
@@ -209,7 +195,6 @@ module _ (s w : List ℕ) (n i : ℕ) (h : Entering s w n i 4) where
     pub not_lays : Laying s w (n - 1) c (place_of + 1) i (header_at w i).count
     not_lays = record {
       stands = not_at.1;
-      short = h.short;
       there = below_small c (omega (arith, h.once c, free_one c, times_one c c, same_self c));
       few = omega (arith, h.few);
       once = λ k. omega (arith, free_one k, h.once k);
@@ -237,7 +222,6 @@ module _ (s w : List ℕ) (n i : ℕ) (h : Entering s w n i 8) (b : Readable s) 
   pub table_lays : Laying s w n i start i (header_at w i).count
   table_lays = record {
     stands = rw (es, ex) (table_below h.stands b h.reads).3;
-    short = h.short;
     there = h.there;
     few = h.few;
     once = h.once;

@@ -12,8 +12,8 @@ use Rattle.rules.specs.Reading.{after}
 use Rattle.rules.specs.States.{Spot, Tree, placed, done, waiting, negated, both, place, live}
 use Rattle.rows.specs.Chunks.{chunks}
 use Rattle.rows.proofs.Chunks.{length_chunks}
-use Rattle.steps.specs.Standing.{part_of, Runnable, Marked}
-use Rattle.steps.proofs.Standing.{inside, code_small, part_id, part_rests, seq_below}
+use Rattle.steps.specs.Standing.{part_of, Runnable}
+use Rattle.steps.proofs.Standing.{code_small, part_id, part_rests, seq_below}
 use Rattle.links.specs.Nets.{Hold, waits, Net, rest, over, one, above, bare, root, foot, is_over, ready_of}
 use Rattle.links.specs.Nets.{node_of, AllShow, times}
 use Rattle.links.proofs.Times.{same_self, times_append}
@@ -26,7 +26,6 @@ use Rattle.area.specs.declared.headers.Phase.TheVariants.{Placed, Finished, Wait
 use Rattle.area.specs.Words.{positions, row_words, header_at, slot_at, rows_at, free_list}
 use Rattle.area.specs.Words.{Headed}
 use Rattle.steps.specs.State.{shown_by, shown, Showing, below, Becomes, Offers, ended, offers, Laying, Laid}
-use Rattle.rules.specs.Books.{most_bytes}
 
 -- what a position shows, from its header and its packets
 pub shows : (s w : List ℕ) (i up : ℕ) (h : Header) (x : Packets) → header_at w i ≡ h → rows_at w i h.count ≡ x → h.up ≡ up
@@ -43,9 +42,6 @@ live_some (done s) = omega arith
 live_some (waiting t o q) = omega arith
 live_some (negated k t) = omega arith
 live_some (both j t u) = omega arith
-
-pub laying_short : {s w : List ℕ} {n i at src count : ℕ} → Laying s w n i at src count → at < most_bytes
-laying_short h = omega (arith, inside h.stands, h.short)
 
 -- the part is finished at once
 module _ (s w v : List ℕ) (n i up at src count f : ℕ) where
@@ -118,11 +114,9 @@ module _ (s w : List ℕ) (n i at src count : ℕ) (h : Laying s w n i at src co
             (place (spot (at + 1) 0) (part_of s (at + 1)) (rows_at w src count)),
       )
 
--- the table of ends has the place of its second part
-pub seq_marked : {s m w : List ℕ} {n i at src count q : ℕ} → Laying s w n i at src count → get_or s at 0 ≡ 6 → Marked s m
-    → q ≡ get_or m (at + 1) 0
-    → q ≡ after s most_depth (at + 1)
-seq_marked h six k e = e ∙ k.ends _ (seq_below h.stands six).1.left
+-- its first part stands in the book
+pub seq_first : {s w : List ℕ} {n i at src count : ℕ} → Laying s w n i at src count → get_or s at 0 ≡ 6 → Runnable s (at + 1)
+seq_first h six = (seq_below h.stands six).1.left
 
 -- number c is taken for its first part
 module _ (s w v : List ℕ) (n i up at src count c q : ℕ) (h : Laying s w n i at src count) (six : get_or s at 0 ≡ 6)
@@ -161,8 +155,7 @@ module _ (s w v : List ℕ) (n i up at src count c q : ℕ) (h : Laying s w n i 
   pub seq_next : Laying s v (n - 1) c (at + 1) src count
   unfolding live
   seq_next = record {
-    stands = (seq_below h.stands six).1.left;
-    short = h.short;
+    stands = seq_first h six;
     there = child_small;
     few = omega (arith, h.few);
     once = λ k. rw (headed_free h.there head (n - 1)) (child k);

@@ -41,7 +41,6 @@ module _ {s w : List ℕ} {n i c : ℕ} (h : Taking s w n i c) where
     unfolding times
     next_lays = record {
       stands = h.stands;
-      short = h.short;
       there = next_small.0;
       few = omega (arith, h.few);
       once = λ k. rw (g.here, h.below) (omega (arith, times_append k (free_list w n) (c ∷ []), h.once k));

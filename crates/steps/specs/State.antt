@@ -2,7 +2,6 @@
 use Rattle.std.specs.Prelude.{ℕ, Option, Some, None, ◌+◌, ◌≤◌, ◌<◌, ◌≡◌, true, false, cond, List, [], ◌∷◌, ◌++◌, ltb, length, get_or}
 use Rattle.rules.specs.Packets.{Packets, Ascending, keep, lacks, most_packets}
 use Rattle.rules.specs.Parts.{Part}
-use Rattle.rules.specs.Books.{most_bytes}
 use Rattle.rules.specs.States.{Tree, Spot, place, enter, join, live}
 use Rattle.steps.specs.Standing.{part_of, join_of, Runnable}
 use Rattle.links.specs.Nets.{Net, Node, Rest, Over, Waits, Keeps, Two, Shows, AllShow, bare, root, foot, is_over, ready_of, times}
@@ -84,7 +83,6 @@ pub data Offers (x : Net) (r : Option ℕ) : Type 0 where
 -- the part at a place is placed at number i, on packets of the slot `src`: it stands in the book, and there is room for its positions
 pub record Laying (s w : List ℕ) (n i at src count : ℕ) : Type 0 where
   pub stands : Runnable s at
-  pub short : length s ≤ most_bytes
   pub there : i < positions
   pub few : n ≤ positions
   pub once : Once (i ∷ []) (free_list w n)
@@ -132,7 +130,6 @@ pub record Turned (s w v : List ℕ) (n m : ℕ) (a : List ℕ) (up i : ℕ) (t 
 -- a part of this code is placed at number i, and can be stepped
 pub record Entering (s w : List ℕ) (n i code : ℕ) : Type 0 where
   pub stands : Runnable s (header_at w i).place
-  pub short : length s ≤ most_bytes
   pub there : i < positions
   pub few : n ≤ positions
   pub once : Once (i ∷ []) (free_list w n)
@@ -144,7 +141,6 @@ pub record Entering (s w : List ℕ) (n i code : ℕ) : Type 0 where
 -- p ; q at number i, where p is finished at number c
 pub record Taking (s w : List ℕ) (n i c : ℕ) : Type 0 where
   pub stands : Runnable s (header_at w i).place
-  pub short : length s ≤ most_bytes
   pub below : (header_at w i).left ≡ c
   pub once : Once (i ∷ c ∷ []) (free_list w n)
   pub few : n < positions

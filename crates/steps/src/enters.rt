@@ -3,14 +3,15 @@ ghost use Rattle.std.specs.Prelude.{◌≡◌, [], ◌∷◌, ℕ, ◌<◌, get_
 ghost use Rattle.rules.specs.Working.{out};
 ghost use Rattle.area.specs.declared.lists.Ready.{Ready};
 ghost use Rattle.area.specs.Words.{header_at, rows_at, Filled, HasSet};
-ghost use Rattle.steps.specs.Standing.{part_of, Readable, Marked};
+ghost use Rattle.steps.specs.Standing.{part_of};
 ghost use Rattle.steps.specs.State.{entering, two_ready, Turned, Entering};
 
 use crate::lays::lay;
-use crate::marks::end_at;
+use crate::marks::MarkedBook;
 use area::{
     Header, Phase, Ready, Words, finish, head, keep_packets, put_head, set_packets, take_free,
 };
+use rules::{DROP, TEST};
 
 // Free numbers, and the positions that a step leaves ready: nobody where it is finished, one, or two.
 #[derive(Clone, Copy)]
@@ -41,21 +42,21 @@ pub fn two_ready(i: usize, a: Option<usize>, b: Option<usize>) -> Ready
 }
 
 // The drop, test or set at a place, on the n packets of slot i where they stand. Gives how many are left.
-fn leaf_at(book: &[u8], work: &mut Words, i: usize, n: usize, at: usize, code: u8) -> usize
+fn leaf_at(book: &MarkedBook, work: &mut Words, i: usize, n: usize, at: usize, code: u8) -> usize
     requires { HasSet work.old i n × (code ≡ get_or book.now at 0) × (0 < code) × (code < 4) }
     ensures { Filled work.old work.new i result
         (out (part_of book.now at) (rows_at work.old i n)) }
 {
-    let p = book::head_at(book, at);
+    let p = book.head_at(at);
     match code {
-        1 => 0,
-        2 => keep_packets(work, i, n, p.field as usize, p.value),
+        DROP => 0,
+        TEST => keep_packets(work, i, n, p.field as usize, p.value),
         _ => set_packets(work, i, n, p.field as usize, p.value),
     }
 }
 
 // The step of a placed drop, test or set.
-pub fn enter_leaf(book: &[u8], work: &mut Words, n: usize, i: usize, code: u8) -> Turn
+pub fn enter_leaf(book: &MarkedBook, work: &mut Words, n: usize, i: usize, code: u8) -> Turn
     requires { Entering book.now work.old n i code × (0 < code) × (code < 4) }
     ensures { (f : ℕ) → Turned book.now work.old work.new n result.free (i ∷ [])
         (header_at work.old i).up i
@@ -68,8 +69,8 @@ pub fn enter_leaf(book: &[u8], work: &mut Words, n: usize, i: usize, code: u8) -
 }
 
 // p + q: two positions below i, each on its set.
-pub fn enter_sum(book: &[u8], ends: &[u16], work: &mut Words, n: usize, i: usize) -> Turn
-    requires { Entering book.now work.old n i 5 × Marked book.now ends.now }
+pub fn enter_sum(book: &MarkedBook, work: &mut Words, n: usize, i: usize) -> Turn
+    requires { Entering book.now work.old n i 5 }
     ensures { (f : ℕ) → Turned book.now work.old work.new n result.free (i ∷ [])
         (header_at work.old i).up i
         (entering book.now work.old i f) result.ready }
@@ -78,20 +79,10 @@ pub fn enter_sum(book: &[u8], ends: &[u16], work: &mut Words, n: usize, i: usize
     let count = h.count as usize;
     let l = take_free(work, n);
     let r = take_free(work, n - 1);
-    let p = book::head_at(book, h.place as usize);
-    let q = end_at(ends, p.from) as usize;
-    let x = lay(
-        book,
-        ends,
-        work,
-        n - 2,
-        l as usize,
-        i as u16,
-        p.from,
-        i,
-        count,
-    );
-    let y = lay(book, ends, work, x.free, r as usize, i as u16, q, i, count);
+    let p = book.head_at(h.place as usize);
+    let q = book.end_at(p.from) as usize;
+    let x = lay(book, work, n - 2, l as usize, i as u16, p.from, i, count);
+    let y = lay(book, work, x.free, r as usize, i as u16, q, i, count);
     let above = Header {
         phase: Phase::Entered,
         count: 0,
@@ -107,18 +98,17 @@ pub fn enter_sum(book: &[u8], ends: &[u16], work: &mut Words, n: usize, i: usize
 }
 
 // not a: a position below i on a copy of its set, which i keeps.
-pub fn enter_not(book: &[u8], ends: &[u16], work: &mut Words, n: usize, i: usize) -> Turn
-    requires { Entering book.now work.old n i 4 × Marked book.now ends.now }
+pub fn enter_not(book: &MarkedBook, work: &mut Words, n: usize, i: usize) -> Turn
+    requires { Entering book.now work.old n i 4 }
     ensures { (f : ℕ) → Turned book.now work.old work.new n result.free (i ∷ [])
         (header_at work.old i).up i
         (entering book.now work.old i f) result.ready }
 {
     let h = head(work, i);
     let c = take_free(work, n);
-    let p = book::head_at(book, h.place as usize);
+    let p = book.head_at(h.place as usize);
     let x = lay(
         book,
-        ends,
         work,
         n - 1,
         c as usize,
@@ -141,16 +131,16 @@ pub fn enter_not(book: &[u8], ends: &[u16], work: &mut Words, n: usize, i: usize
 }
 
 // A use of a table: its body laid out in this position.
-pub fn enter_table(book: &[u8], ends: &[u16], work: &mut Words, n: usize, i: usize) -> Turn
-    requires { Entering book.now work.old n i 8 × Readable book.now × Marked book.now ends.now }
+pub fn enter_table(book: &MarkedBook, work: &mut Words, n: usize, i: usize) -> Turn
+    requires { Entering book.now work.old n i 8 }
     ensures { (f : ℕ) → Turned book.now work.old work.new n result.free (i ∷ [])
         (header_at work.old i).up i
         (entering book.now work.old i f) result.ready }
 {
     let h = head(work, i);
-    let p = book::head_at(book, h.place as usize);
-    let start = book::body_start(book, p.table);
-    let x = lay(book, ends, work, n, i, h.up, start, i, h.count as usize);
+    let p = book.head_at(h.place as usize);
+    let start = book.body_start(p.table);
+    let x = lay(book, work, n, i, h.up, start, i, h.count as usize);
     Turn {
         free: x.free,
         ready: Ready::from(x.ready),

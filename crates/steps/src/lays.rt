@@ -3,11 +3,11 @@ ghost use Rattle.std.specs.Prelude.{ℕ, ◌<◌, ◌≤◌};
 ghost use Rattle.rules.specs.Packets.{most_packets};
 ghost use Rattle.area.specs.Words.{positions, rows_at};
 ghost use Rattle.area.specs.declared.headers.Phase.{Phase};
-ghost use Rattle.steps.specs.Standing.{Marked};
 ghost use Rattle.steps.specs.State.{Becomes, Laying, Laid};
 
-use crate::marks::end_at;
+use crate::marks::MarkedBook;
 use area::{Header, Phase, Words, copy_packets, put_head, take_free};
+use rules::{ID, SEQUENCE};
 
 // Position i with its header and the first packets of slot `src`.
 pub fn lay_leaf(
@@ -44,8 +44,7 @@ pub struct Offer {
 
 // The part at a place laid out at number i below `up`, on the first packets of slot `src`: a sequence gets its position below.
 pub fn lay(
-    book: &[u8],
-    ends: &[u16],
+    book: &MarkedBook,
     work: &mut Words,
     n: usize,
     i: usize,
@@ -54,23 +53,23 @@ pub fn lay(
     src: usize,
     count: usize,
 ) -> Offer
-    requires { Laying book.now work.old n i at src count × Marked book.now ends.now }
+    requires { Laying book.now work.old n i at src count }
     ensures { (f : ℕ) → Laid book.now work.old work.new n result.free i up at src count
         result.ready f }
 {
-    let p = book::head_at(book, at);
+    let p = book.head_at(at);
     match p.code {
-        0 => {
+        ID => {
             lay_leaf(work, i, up, at as u16, Phase::Finished, src, count);
             Offer {
                 free: n,
                 ready: None,
             }
         }
-        6 => {
+        SEQUENCE => {
             let c = take_free(work, n);
             let h = Header {
-                place: end_at(ends, p.from),
+                place: book.end_at(p.from),
                 phase: Phase::Waiting,
                 count: 0,
                 up,
@@ -78,17 +77,7 @@ pub fn lay(
                 right: 0,
             };
             put_head(work, i, h);
-            let first = lay(
-                book,
-                ends,
-                work,
-                n - 1,
-                c as usize,
-                i as u16,
-                p.from,
-                src,
-                count,
-            );
+            let first = lay(book, work, n - 1, c as usize, i as u16, p.from, src, count);
             Offer {
                 free: first.free,
                 ready: first.ready.or(Some(i)),

@@ -3,16 +3,17 @@ ghost use Rattle.std.specs.Prelude.{List, [], ◌∷◌, ℕ, ◌≤◌, length}
 ghost use Rattle.rules.specs.Packets.{most_packets};
 ghost use Rattle.rules.specs.States.{place, done, join};
 ghost use Rattle.area.specs.Words.{header_at, rows_at, Filled, Three};
-ghost use Rattle.steps.specs.Standing.{join_of, Marked};
+ghost use Rattle.steps.specs.Standing.{join_of};
 ghost use Rattle.steps.specs.State.{spot_at, part_at, set_at, Turned, Taking, Joining, joining, lacking, Lacking};
 
 use crate::enters::{Turn, ended};
 use crate::lays::lay;
+use crate::marks::MarkedBook;
 use area::{Phase, Ready, Words, finish, give_back, head, lack_slots, pair_slots, union_slots};
 
 // p ; q where p is finished: q on p's set, in the sequence's own position; p's is given back.
-pub fn take_next(book: &[u8], ends: &[u16], work: &mut Words, n: usize, i: usize, c: usize) -> Turn
-    requires { Taking book.now work.old n i c × Marked book.now ends.now }
+pub fn take_next(book: &MarkedBook, work: &mut Words, n: usize, i: usize, c: usize) -> Turn
+    requires { Taking book.now work.old n i c }
     ensures { (f : ℕ) → Turned book.now work.old work.new n result.free (i ∷ c ∷ [])
         (header_at work.old i).up i
         (place (spot_at work.old i f) (part_at book.now work.old i) (set_at work.old c))
@@ -23,7 +24,6 @@ pub fn take_next(book: &[u8], ends: &[u16], work: &mut Words, n: usize, i: usize
     give_back(work, n, h.left);
     let x = lay(
         book,
-        ends,
         work,
         n + 1,
         i,
@@ -40,7 +40,7 @@ pub fn take_next(book: &[u8], ends: &[u16], work: &mut Words, n: usize, i: usize
 
 // The set that two finished positions leave, by the phase above them, in slot i. Gives how many packets it has.
 fn join_slots(
-    book: &[u8],
+    book: &MarkedBook,
     work: &mut Words,
     i: usize,
     l: usize,
@@ -57,7 +57,7 @@ fn join_slots(
 {
     match phase {
         Phase::Paired => {
-            let p = book::head_at(book, at);
+            let p = book.head_at(at);
             pair_slots(work, i, l, r, a, b, p.right as u16)
         }
         _ => union_slots(work, i, l, r, a, b),
@@ -65,7 +65,14 @@ fn join_slots(
 }
 
 // p + q, a split or the two sides of a concurrent part, where both are finished: their set in the upper position.
-pub fn leave_both(book: &[u8], work: &mut Words, n: usize, i: usize, l: usize, r: usize) -> Turn
+pub fn leave_both(
+    book: &MarkedBook,
+    work: &mut Words,
+    n: usize,
+    i: usize,
+    l: usize,
+    r: usize,
+) -> Turn
     requires { Joining book.now work.old n i l r }
     ensures { Turned book.now work.old work.new n result.free (i ∷ l ∷ r ∷ [])
         (header_at work.old i).up i

@@ -6,7 +6,7 @@ use crate::judging::agrees;
 use crate::vector_set::Vectors;
 use crate::vectors::{Call, long_at};
 
-#[derive(Clone, Copy)]
+#[derive(Clone, Copy, Debug, PartialEq, Eq)]
 pub struct Tally {
     pub cases: usize,
     pub found: usize,
@@ -16,7 +16,8 @@ pub struct Tally {
 }
 
 // Whether the answers to a vector are not as it states; whether it states that a call answers, or that it is turned away by a number.
-#[derive(Clone, Copy)]
+// An enum and no closure: so a contract can name the question.
+#[derive(Clone, Copy, Debug, PartialEq, Eq)]
 pub enum Question {
     Differs,
     Answered(Call),

@@ -12,7 +12,7 @@ pub const MOST_WORDS: usize = 65536;
 pub type Words = ArrayVec<u16, MOST_WORDS>;
 
 // The calls that a vector states answers of.
-#[derive(Clone, Copy)]
+#[derive(Clone, Copy, Debug, PartialEq, Eq)]
 pub enum Call {
     Accept,
     Evaluate,
@@ -40,7 +40,7 @@ pub fn word_at(s: &[u8], at: usize) -> usize
     usize::from(book::number_at(s, at))
 }
 
-// The number in four bytes.
+// The number in four bytes. By no from_be_bytes: where fewer than four are left, zeros stand for the others.
 pub fn long_at(s: &[u8], at: usize) -> u64
     requires { at < 65536 }
     ensures { result ≡ long_at s.now at }

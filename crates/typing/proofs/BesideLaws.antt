@@ -65,16 +65,6 @@ module _ (s : List ℕ) (n : Notes) (st : State) (d : ℕ) (w : Way) (a : Beside
         left : Ok (tally_of l v) ≡ walked s (inner w) d (tally_of (moved 2 (bare st)) (sunk w.level n))
         left = rw el at t
 
-        -- into the second
-        pub second_asked : Asked s v (bare l) d (inner w)
-        second_asked =
-            let c : Kept s (inner w).level (tally_of l v) = rw el at k in
-            record {
-              sound = a.asked.sound;
-              kept = record { within = c.within; parts = c.parts; few = c.few; room = c.room; deep = c.deep };
-              level = omega (arith, a.asked.level);
-            }
-
         -- out of both
         module _ (y : Result State ℕ) (u : Notes) (h : tallied y u ≡ walked s (inner w) d (tally_of (bare l) v))
             (g : IfOk y (λ i. Kept s (inner w).level (tally_of i u))) where

@@ -34,13 +34,7 @@ use Rattle.typing.specs.Walking.{LeafAsked, leafed, Noted}
 pub shown : (s : List ℕ) (at : ℕ) (h : Head) → at < length s → h ≡ head_at s at → h ≡ head s at
 shown s at h l e = e ∙ head_is s at l
 
--- a refusal by the operands
-pub leafed_wrong : (st : State) (p : Part) (r ro : Result ℕ ℕ) (a : ℕ) → r ≡ ro → r ≡ Err a → Err a ≡ leafed st p ro
-leafed_wrong st p r ro a q e = rw (← q, e)
-
-pub if_not : (x a : ℕ) (r ro : Result ℕ ℕ) → r ≡ ro → r ≡ Err a → Err a ≡ if_read x ro
-if_not x a r ro q e = rw (← q, e)
-
+-- once the operands are read
 pub if_so : (x y e : ℕ) (r ro : Result ℕ ℕ) → r ≡ ro → r ≡ Ok e → y ≡ x → Ok y ≡ if_read x ro
 if_so x y e r ro q n h = rw (← q, n, h)
 

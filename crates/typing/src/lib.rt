@@ -2,9 +2,9 @@
 // tables, all in one reading from left to right; then the verdict on a book by arithmetic.
 #![tactic(auto)]
 
-ghost use Rattle.std.specs.Prelude.{◌≡◌, ◌+◌, ◌*◌, ◌≤◌, ◌<◌, not, cond, max, suc, eqb, get_or, length, Some, None, IfOk};
+ghost use Rattle.std.specs.Prelude.{◌≡◌, ◌+◌, ◌*◌, ◌≤◌, ◌<◌, cond, max, suc, eqb, get_or, length, Some, None, IfOk};
 ghost use Rattle.std.specs.Option.{option_or};
-ghost use Rattle.rules.specs.Codes.{operands_of, parts_of};
+ghost use Rattle.rules.specs.Codes.{operands_of};
 ghost use Rattle.rules.specs.Parts.{Id};
 ghost use Rattle.rules.specs.Masks.{field, within, apart};
 ghost use Rattle.rules.specs.Typing.{fit_masks};
@@ -46,7 +46,7 @@ pub struct Use {
 }
 
 // What a walk notes beside its state: the place of the first concurrent part that is not right, the deepest concurrent nesting, and
-// the uses of each table.
+// the uses of each table. That there are 16 is in `Kept`, and no ghost field: the specs make notes of their own, and would owe it there.
 #[derive(Drop)]
 pub struct Notes {
     pub fault: Option<usize>,
@@ -220,7 +220,8 @@ fn leaf(s: &[u8], notes: &mut Notes, st: State, way: Way) -> Result<State, usize
     }
 }
 
-// ---- a part and all below it
+// ---- a part and all below it. The bytes and the notes are lent whole, and state, depth and way are others at each call: so they stay
+// apart.
 
 // One side of a sum or a sequence: a part with no parts below it is read here, any other is walked.
 #[cycle(walking)]

@@ -1,15 +1,8 @@
 -- `masks_right` meets its contract. Assumes nothing.
 use native.Mathlib.Omega.{arith}
 use mathlib.Core.Path.{sym, ◌∙◌}
-use Rattle.book.proofs.LayoutLaws.{masks_start, masks_step, masks_stop, masks_end}
+use Rattle.book.proofs.LayoutLaws.{masks_step, masks_stop, masks_end}
 use Rattle.book.proofs.masks_right.Goals as goal
-
-pub loop-x-init : goal.loop-x-init
-loop-x-init c = record {
-  fields = c.byte_at-k.ensures;
-  entries = (c.byte_at-x-end.ensures, omega arith);
-  left = masks_start _ _ c.byte_at-x-end.ensures;
-}
 
 pub loop-x-preserved : goal.loop-x-preserved
 loop-x-preserved c = record {

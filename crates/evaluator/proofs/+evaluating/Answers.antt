@@ -198,6 +198,11 @@ walk_packets-returns-in_err-first t c =
     rw (from_here c.args.set.now c.args.i c.requires.within c.if-i-set.false)
     (rw (handed_up c.from_residual.ensures.1) (over_first _ _ _ _ _ _ (over_on _ (alone c.packet-row.ensures) c.in_err-first.ensures)))
 
+pub walk_packets-returns-then-i-set-2 : goal.walk_packets-returns-then-i-set-2
+walk_packets-returns-then-i-set-2 t c =
+    rw (from_here c.args.set.now c.args.i c.requires.within c.if-i-set.false, from_end c.args.set.now _ c.if-i-set-2.true)
+    (on (alone c.packet-row.ensures) c.in_ok-first.ensures)
+
 pub walk_packets-returns-in_err-second : goal.walk_packets-returns-in_err-second
 walk_packets-returns-in_err-second t c =
     rw (from_here c.args.set.now c.args.i c.requires.within c.if-i-set.false)

@@ -8,46 +8,38 @@ use Rattle.typing.proofs.LeafLaws.{beside_stops, five_six, no_parts, other_codes
 use Rattle.typing.proofs.WalkLaws.{walk_short, walk_deep}
 use Rattle.typing.proofs.CycleLaws.{leaf_is_told, leaf_is_kept, round_short, round_deep, round_stop, round_told, kept_as, round_not}
 use Rattle.typing.proofs.CycleLaws.{round_off, round_on}
-use Rattle.typing.proofs.BesideLaws.{beside_refused, first_asked, first_off, second_asked, second_off, both_told, both_kept}
+use Rattle.typing.proofs.BesideLaws.{beside_refused, first_asked, first_off, second_off, both_told, both_kept}
 use Rattle.typing.proofs.+walking.Goals as goal
 use Rattle.typing.proofs.+walking.Goals.{walk-in_default-via-then-code-lt4, walk-in_default-via-else-code-lt4+else-code-lt7}
 
 pub beside_part-returns-in_err-read_operands-clause-told : goal.beside_part-returns-in_err-read_operands-clause-told
 beside_part-returns-in_err-read_operands-clause-told t c =
     rw (handed_up c.from_residual.ensures.1)
-    (beside_refused _ _ _ _ _ c.requires _ (rw c.place.ensures at c.read_operands.ensures.0) _ c.in_err-read_operands.was)
+    (beside_refused _ _ _ _ _ c.requires _ (rw c.place.ensures at c.read_operands.ensures.read) _ c.in_err-read_operands.was)
 
 pub beside_part-walk-left-requires : goal.beside_part-walk-left-requires
 beside_part-walk-left-requires t c =
-    let ops = rw c.place.ensures at c.read_operands.ensures.0 in (
+    let ops = rw c.place.ensures at c.read_operands.ensures.read in (
       omega arith,
       rw (c.past.ensures, c.bare.ensures, c.max-notes.ensures) (first_asked _ _ _ _ _ c.requires _ ops _ c.in_ok-read_operands.was),
     )
 
 pub beside_part-returns-in_default-clause-told : goal.beside_part-returns-in_default-clause-told
 beside_part-returns-in_default-clause-told t c =
-    let ops = rw c.place.ensures at c.read_operands.ensures.0 in
+    let ops = rw c.place.ensures at c.read_operands.ensures.read in
     first_off _ _ _ _ _ c.requires _ ops _ c.in_ok-read_operands.was _ _
     (rw (c.past.ensures, c.bare.ensures, c.max-notes.ensures) at c.walk-left.ensures.told) c.walk-left.ensures.kept _ c.in_default.is
 
-pub beside_part-walk-right-requires : goal.beside_part-walk-right-requires
-beside_part-walk-right-requires t c =
-    let ops = rw c.place.ensures at c.read_operands.ensures.0 in (
-      omega arith,
-      rw c.bare-2.ensures (second_asked _ _ _ _ _ c.requires _ ops _ c.in_ok-read_operands.was _ _
-          (rw (c.past.ensures, c.bare.ensures, c.max-notes.ensures) at c.walk-left.ensures.told) c.walk-left.ensures.kept _ c.in-Ok.is),
-    )
-
 pub beside_part-returns-in_default-right-clause-told : goal.beside_part-returns-in_default-right-clause-told
 beside_part-returns-in_default-right-clause-told t c =
-    let ops = rw c.place.ensures at c.read_operands.ensures.0 in
+    let ops = rw c.place.ensures at c.read_operands.ensures.read in
     second_off _ _ _ _ _ c.requires _ ops _ c.in_ok-read_operands.was _ _
     (rw (c.past.ensures, c.bare.ensures, c.max-notes.ensures) at c.walk-left.ensures.told) c.walk-left.ensures.kept _ c.in-Ok.is _ _
     (rw c.bare-2.ensures at c.walk-right.ensures.told) c.walk-right.ensures.kept _ c.in_default-right.is
 
 pub beside_part-returns : goal.beside_part-returns
 beside_part-returns t c =
-    let ops = rw c.place.ensures at c.read_operands.ensures.0 in
+    let ops = rw c.place.ensures at c.read_operands.ensures.read in
     let t1 = rw (c.past.ensures, c.bare.ensures, c.max-notes.ensures) at c.walk-left.ensures.told in
     let t2 = rw c.bare-2.ensures at c.walk-right.ensures.told in
     let i = rw c.place-2.ensures at c.head_at-h.ensures in

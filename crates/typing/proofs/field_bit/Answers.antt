@@ -2,27 +2,21 @@
 use native.Mathlib.Omega.{arith}
 use mathlib.Core.Path.{sym, ap, ◌∙◌}
 use Rattle.rules.specs.declared.Head.{Head}
-use Rattle.rules.proofs.HandingUp.{handed_up}
 use Rattle.rules.proofs.ReadingLaws.{field_known}
 use Rattle.rules.specs.Masks.{field}
-use Rattle.typing.proofs.LeafLaws.{shown, if_not, if_so, bit_is}
+use Rattle.typing.proofs.LeafLaws.{shown, if_so, bit_is}
 use Rattle.typing.proofs.field_bit.Goals as goal
-
-pub returns-in_err-read_operands : goal.returns-in_err-read_operands
-returns-in_err-read_operands c =
-    rw (handed_up c.from_residual.ensures.1)
-    (if_not _ _ _ _ (rw c.place.ensures at c.read_operands.ensures.0) c.in_err-read_operands.was)
 
 pub overflow_shl-result : goal.overflow_shl-result
 overflow_shl-result c =
     let h = ap (λ (h : Head). h.field) (shown _ _ _ c.requires.1 (rw c.place-2.ensures at c.head_at.ensures)) in
-    let read = sym (rw c.place.ensures at c.read_operands.ensures.0) ∙ c.in_ok-read_operands.was in
+    let read = sym (rw c.place.ensures at c.read_operands.ensures.read) ∙ c.in_ok-read_operands.was in
     omega (arith, h, field_known _ _ _ _ _ _ c.requires.2 c.requires.3 read, c.requires.0.fields)
 
 pub returns : goal.returns
 returns c =
     let h = ap (λ (h : Head). h.field) (shown _ _ _ c.requires.1 (rw c.place-2.ensures at c.head_at.ensures)) in
-    let ops = rw c.place.ensures at c.read_operands.ensures.0 in
+    let ops = rw c.place.ensures at c.read_operands.ensures.read in
     let known = field_known _ _ _ _ _ _ c.requires.2 c.requires.3 (sym ops ∙ c.in_ok-read_operands.was) in
     if_so _ _ _ _ _ ops c.in_ok-read_operands.was
     (bit_is _ (omega (arith, h, known, c.requires.0.fields)) ∙ ap field h)

@@ -7,7 +7,7 @@ use Rattle.machine.proofs.beside.enter_beside.Goals as goal
 pub returns-in-0 : goal.returns-in-0
 returns-in-0 c =
     rw c.ended.ensures
-    (none_entered c.requires.0 (sym (ap (λ (h : Header). h.count) c.head-h.ensures) ∙ c.in-0.is) (rw c.head-h.ensures at c.finish.ensures))
+    (none_entered c.requires (sym (ap (λ (h : Header). h.count) c.head-h.ensures) ∙ c.in-0.is) (rw c.head-h.ensures at c.finish.ensures))
 
 pub returns-in_default : goal.returns-in_default
-returns-in_default c = c.enter_split.ensures c.args.book.now c.requires.0
+returns-in_default c = c.enter_split.ensures c.args.book.now c.requires

@@ -1,6 +1,6 @@
 -- The two sides, each on its packet, below this position.
 use native.Mathlib.Omega.{arith}
-use Rattle.machine.proofs.Sides.{beside_head, beside_marked, sides_room, first_small, second_small, side_put}
+use Rattle.machine.proofs.Sides.{beside_head, beside_first, sides_room, first_small, second_small, side_put}
 use Rattle.machine.proofs.Sides.{first_lays, second_lays, sides_entered}
 use Rattle.machine.proofs.beside.enter_sides.Goals as goal
 
@@ -24,35 +24,35 @@ bare_packet-requires-2 c = (
   second_small c.requires.0 _ _ (sides_room c.requires.0 c.requires.1) c.take_free-l.ensures c.take_free-r.ensures,
 )
 
+pub end_at-q-requires : goal.end_at-q-requires
+end_at-q-requires c =
+    rw (beside_head c.requires.0 c.head-h.ensures c.head_at-part.ensures.head).from (beside_first c.requires.0)
+
 pub lay-x-requires : goal.lay-x-requires
 lay-x-requires c =
     let a = c.args in
-    let o = beside_head c.requires.0 c.head-h.ensures c.head_at-part.ensures in (
-      rw o.from (first_lays c.requires.0 _ _ (sides_room c.requires.0 c.requires.1) c.take_free-l.ensures
-          c.take_free-r.ensures c.requires.1 _ _
-          (side_put a.i o.right c.bare_packet.ensures)
-          (side_put a.i o.left c.bare_packet-2.ensures)),
-      c.requires.2,
-    )
+    let o = beside_head c.requires.0 c.head-h.ensures c.head_at-part.ensures.head in
+    rw o.from (first_lays c.requires.0 _ _ (sides_room c.requires.0 c.requires.1) c.take_free-l.ensures
+    c.take_free-r.ensures c.requires.1 _ _
+    (side_put a.i o.right c.bare_packet.ensures)
+    (side_put a.i o.left c.bare_packet-2.ensures))
 
 pub lay-y-requires : goal.lay-y-requires
 lay-y-requires c =
     let a = c.args in
-    let o = beside_head c.requires.0 c.head-h.ensures c.head_at-part.ensures in
-    let q = beside_marked c.requires.0 c.requires.2 o.from c.end_at-q.ensures in (
-      rw q (second_lays c.requires.0 _ _ (sides_room c.requires.0 c.requires.1) c.take_free-l.ensures
-          c.take_free-r.ensures c.requires.1 _ _
-          (side_put a.i o.right c.bare_packet.ensures)
-          (side_put a.i o.left c.bare_packet-2.ensures)
-          _ _ _ (λ f. rw o.from at (c.lay-x.ensures f))),
-      c.requires.2,
-    )
+    let o = beside_head c.requires.0 c.head-h.ensures c.head_at-part.ensures.head in
+    let q = rw o.from at c.end_at-q.ensures in
+    rw q (second_lays c.requires.0 _ _ (sides_room c.requires.0 c.requires.1) c.take_free-l.ensures
+    c.take_free-r.ensures c.requires.1 _ _
+    (side_put a.i o.right c.bare_packet.ensures)
+    (side_put a.i o.left c.bare_packet-2.ensures)
+    _ _ _ (λ f. rw o.from at (c.lay-x.ensures f)))
 
 pub returns : goal.returns
 returns c =
     let a = c.args in
-    let o = beside_head c.requires.0 c.head-h.ensures c.head_at-part.ensures in
-    let q = beside_marked c.requires.0 c.requires.2 o.from c.end_at-q.ensures in
+    let o = beside_head c.requires.0 c.head-h.ensures c.head_at-part.ensures.head in
+    let q = rw o.from at c.end_at-q.ensures in
     rw c.two_ready.ensures (sides_entered c.requires.0 _ _ (sides_room c.requires.0 c.requires.1) c.take_free-l.ensures
     c.take_free-r.ensures c.requires.1 _ _
     (side_put a.i o.right c.bare_packet.ensures)

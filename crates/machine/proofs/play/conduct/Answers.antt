@@ -3,4 +3,5 @@ use Rattle.machine.proofs.play.conduct.Goals as goal
 
 pub returns : goal.returns
 returns c =
-    (c.answer-r.ensures.0, c.answer-r.ensures.1, rw c.play-c.array_long at (c.fill.ensures.after (λ y h. h)))
+    let r = rw c.new-marked.ensures at c.answer-r.ensures in
+    (r.0, r.1, rw c.play-c.array_long at (c.fill.ensures.after (λ y h. h)))

@@ -6,13 +6,13 @@ use Rattle.machine.proofs.Playing.{play_starts, can_advance, play_turns, play_en
 use Rattle.machine.proofs.play.play.Goals as goal
 
 pub loop-n-init : goal.loop-n-init
-loop-n-init c = play_starts c.args.schedule.now c.requires.3 c.told-work
+loop-n-init c = play_starts c.args.schedule.now c.requires.1 c.told-work
 
 pub returns-then-c-eq0 : goal.returns-then-c-eq0
 returns-then-c-eq0 c = play_over _ _ _ _ _ _ _ c.loop-n.invariant c.if-c-eq0.true
 
 pub advance-c-requires : goal.advance-c-requires
-advance-c-requires c = (can_advance _ _ _ _ _ _ _ c.loop-n.invariant c.requires.0 c.requires.2, c.requires.1)
+advance-c-requires c = can_advance _ _ _ _ _ _ _ c.loop-n.invariant c.requires.0
 
 pub loop-n-preserved : goal.loop-n-preserved
 loop-n-preserved c =

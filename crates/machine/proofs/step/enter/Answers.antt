@@ -8,27 +8,27 @@ use Rattle.machine.proofs.step.enter.Goals as goal
 
 pub enter_leaf-requires : goal.enter_leaf-requires
 enter_leaf-requires c =
-    let e = code_read c.requires.0 c.head-h.ensures c.head_at-code.ensures in
-    (entering_as e c.requires.0.entering, omega (arith, c.requires.0.acts, e), omega arith)
+    let e = code_read c.requires c.head-h.ensures c.head_at-code.ensures.head in
+    (entering_as e c.requires.entering, omega (arith, c.requires.acts, e), omega arith)
 
 pub enter_not-requires : goal.enter_not-requires
 enter_not-requires c =
-    let e : 4 ≡ code_at c.args.book.now c.args.work.now c.args.i = omega (arith, code_read c.requires.0 c.head-h.ensures c.head_at-code.ensures) in
-    (entering_as e c.requires.0.entering, c.requires.1)
+    let e : 4 ≡ code_at c.args.book.now c.args.work.now c.args.i = omega (arith, code_read c.requires c.head-h.ensures c.head_at-code.ensures.head) in
+    entering_as e c.requires.entering
 
 pub enter_sum-requires : goal.enter_sum-requires
 enter_sum-requires c =
-    let e : 5 ≡ code_at c.args.book.now c.args.work.now c.args.i = omega (arith, code_read c.requires.0 c.head-h.ensures c.head_at-code.ensures) in
-    (entering_as e c.requires.0.entering, c.requires.1)
+    let e : 5 ≡ code_at c.args.book.now c.args.work.now c.args.i = omega (arith, code_read c.requires c.head-h.ensures c.head_at-code.ensures.head) in
+    entering_as e c.requires.entering
 
 pub enter_beside-requires : goal.enter_beside-requires
 enter_beside-requires c =
-    let e : 7 ≡ code_at c.args.book.now c.args.work.now c.args.i = omega (arith, code_read c.requires.0 c.head-h.ensures c.head_at-code.ensures) in
-    (entering_as e c.requires.0.entering, c.requires.1)
+    let e : 7 ≡ code_at c.args.book.now c.args.work.now c.args.i = omega (arith, code_read c.requires c.head-h.ensures c.head_at-code.ensures.head) in
+    entering_as e c.requires.entering
 
 pub enter_table-requires : goal.enter_table-requires
 enter_table-requires c =
-    let e = code_read c.requires.0 c.head-h.ensures c.head_at-code.ensures in
-    let eight = table_left e (code_small c.requires.0.entering.stands) c.requires.0.single (omega arith) (λ z. omega arith)
+    let e = code_read c.requires c.head-h.ensures c.head_at-code.ensures.head in
+    let eight = table_left e (code_small c.requires.entering.stands) c.requires.single (omega arith) (λ z. omega arith)
     (λ z. omega arith) (λ z. omega arith) in
-    (entering_as eight c.requires.0.entering, c.requires.0.readable, c.requires.1)
+    entering_as eight c.requires.entering

@@ -14,14 +14,14 @@ returns-in-1 c =
 pub returns-in-2 : goal.returns-in-2
 returns-in-2 c =
     let a = c.args in
-    let r = head_reads _ _ c.head_at-p.ensures in
+    let r = head_reads _ _ c.head_at-p.ensures.head in
     rw (out_test a.book.now a.at a.code c.requires.1 (rows_at a.work.now a.i a.n) _ _ c.in-2.is r.field
     r.value) at c.keep_packets.ensures
 
 pub returns-in_default : goal.returns-in_default
 returns-in_default c =
     let a = c.args in
-    let r = head_reads _ _ c.head_at-p.ensures in
+    let r = head_reads _ _ c.head_at-p.ensures.head in
     rw (out_set a.book.now a.at a.code c.requires.1 (rows_at a.work.now a.i a.n) _ _
     (omega (arith, c.requires.2, c.requires.3)) r.field r.value)
     at c.set_packets.ensures

@@ -9,14 +9,14 @@ pair_slots-requires c =
     let a = c.args in
     let S = rows_at a.work.now a.l a.a in
     let T = rows_at a.work.now a.r a.b in
-    (c.requires.0, rw (head_reads _ _ c.head_at-p.ensures).right (rw (c.in-Paired.is, join_paired a.book.now a.at S T) at c.requires.1))
+    (c.requires.0, rw (head_reads _ _ c.head_at-p.ensures.head).right (rw (c.in-Paired.is, join_paired a.book.now a.at S T) at c.requires.1))
 
 pub returns-in-Paired : goal.returns-in-Paired
 returns-in-Paired c =
     let a = c.args in
     let S = rows_at a.work.now a.l a.a in
     let T = rows_at a.work.now a.r a.b in
-    rw (c.in-Paired.is, join_paired a.book.now a.at S T) (rw (head_reads _ _ c.head_at-p.ensures).right at c.pair_slots.ensures)
+    rw (c.in-Paired.is, join_paired a.book.now a.at S T) (rw (head_reads _ _ c.head_at-p.ensures.head).right at c.pair_slots.ensures)
 
 pub union_slots-requires : goal.union_slots-requires
 union_slots-requires c =
