@@ -1,15 +1,15 @@
 -- A slot lent as an array of rows and given back: what it holds then, and that all other words stay.
 use Prim.Native.Nat.{ℕ, ◌+◌, ◌-◌, ◌*◌, ◌≤◌, ◌<◌}
 use native.Mathlib.Omega.{arith}
+use native.Mathlib.Numerals.{add-one}
 use mathlib.Core.Path.{◌≡◌, refl, sym, ap, ◌∙◌}
 use mathlib.Core.Bool.{true, false}
 use mathlib.Core.List.{List, [], ◌∷◌, ◌++◌, map, append_assoc}
 use lib.ListN.{length, take, drop, get_or, replicate, length-take, length-drop, drop_of_length-le}
-use lib.Seq.{paste, drop-drop, take_at, drop_at, take_all, get_or-drop, length-take-le, length-paste, set_out}
+use lib.Seq.{take-suc, paste, drop-drop, take_at, drop_at, take_all, get_or-drop, length-take-le, set_out}
 use Rattle.rules.specs.Packets.{Packet, Packets, passes, put, insert, union, keep, gathered, most_packets}
 use Rattle.rows.specs.Chunks.{chunks, rows_of, blank, Packed, Held, Stored, Cleared}
-use Rattle.std.proofs.lemmas.List.{take-append-drop}
-use Rattle.rows.proofs.Chunks.{length_chunks, length_rows_lem, get_or_chunks, chunks_add, chunks_append, chunks_front}
+use Rattle.rows.proofs.Chunks.{length_chunks, length_rows_lem, get_or_chunks, chunks_add}
 use Rattle.rows.proofs.Clearing.{trimmed}
 use Rattle.rows.proofs.Holding.{held_count}
 use Rattle.sets.proofs.Rows.{set_take}
@@ -17,7 +17,7 @@ use Rattle.std.specs.declared.ops.Range.{Range}
 use Rattle.area.specs.Words.{positions, row_words, slot_words, slot_from, slot_range, area_words, part, slot_at, rows_at, packet_at, OutsideSlot}
 use Rattle.area.specs.Words.{Slotted}
 use Rattle.area.specs.Words.{Rowed, Filled, HasSet, Tidied}
-use Rattle.area.proofs.Words.{outside_same, outside_then, outside_wider, outside_paste}
+use Rattle.area.proofs.Words.{outside_same, outside_then, outside_paste, part_out, slots_apart}
 
 -- ---- the words lent, and given back as ys
 
@@ -144,7 +144,12 @@ set_none w i f x h =
     let l : length (packet_at w i 0) ≤ f = omega (arith, length-take row_words (slot_at w i)) in
     record { here = rw (set_out (packet_at w i 0) f x l) refl; out = outside_same w _ _ }
 
--- ---- packets copied
+-- ---- packets copied one by one
+
+-- the first k packets of slot j are those of slot i from m on
+pub record Copying (w : List ℕ) (i m j n : ℕ) (v : List ℕ) (k : ℕ) : Type 0 where
+  pub here : rows_at v j k ≡ take k (drop m (rows_at w i n))
+  pub out : OutsideSlot w v j
 
 pub packet_at_lem : (w : List ℕ) (i m n k : ℕ) → n ≤ most_packets → m + k < n → get_or (drop m (rows_at w i n)) k [] ≡ packet_at w i (m + k)
 packet_at_lem w i m n k h l =
@@ -154,48 +159,26 @@ packet_at_lem w i m n k h l =
 length_rest : (w : List ℕ) (i m n : ℕ) → length (drop m (rows_at w i n)) ≡ n - m
 length_rest w i m n = length-drop m (rows_at w i n) ∙ rw (length_chunks row_words n (slot_at w i)) refl
 
--- the first rows of a slot are those of the words from its start on
-rows_words : (w : List ℕ) (i k : ℕ) → k ≤ most_packets → i < positions → length w ≡ area_words
-    → rows_at w i k ≡ chunks row_words k (drop (slot_from i) w)
-unfolding part
-rows_words w i k h g room =
-    let D : List ℕ = drop (slot_from i) w in
-    sym (chunks_append row_words k (take slot_words D) (drop slot_words D) (omega (arith, slot_size w i g room)))
-    ∙ ap (chunks row_words k) (take-append-drop slot_words D)
+pub copying_start : (w : List ℕ) (i m j n : ℕ) → Copying w i m j n w 0
+unfolding chunks
+copying_start w i m j n = record { here = refl; out = outside_same w _ _ }
 
--- those from m on are those of the words from there on
-rows_from : (w : List ℕ) (i m n : ℕ) → m ≤ n → n ≤ most_packets → i < positions → length w ≡ area_words
-    → drop m (rows_at w i n) ≡ chunks row_words (n - m) (drop (slot_from i + m * row_words) w)
-rows_from w i m n l h g room =
-    let D : List ℕ = drop (slot_from i) w in
-    let k : ℕ = n - m in
-    let e : n ≡ m + k = omega arith in
-    ap (drop m) (rows_words w i n h g room ∙ ap (λ (z : ℕ). chunks row_words z D) e ∙ chunks_add row_words m k D)
-    ∙ drop_at (chunks row_words m D) (chunks row_words k (drop (m * row_words) D)) m (length_chunks row_words m D)
-    ∙ ap (chunks row_words k) (drop-drop (m * row_words) (slot_from i) w)
-
-pub copied : {w v : List ℕ} {i m j n : ℕ} → m ≤ n → n ≤ most_packets → i < positions → j < positions → length w ≡ area_words
-    → v ≡ paste w (slot_from j) (drop (slot_from i + m * row_words) w) (slot_from i + n * row_words - (slot_from i + m * row_words))
-    → Slotted w v j (drop m (rows_at w i n))
-copied {w} {v} {i} {m} {j} {n} l h g d room e =
-    let s : List ℕ = drop (slot_from i + m * row_words) w in
-    let k : ℕ = n - m in
-    let c : slot_from i + n * row_words - (slot_from i + m * row_words) ≡ k * row_words = omega arith in
-    let ls : length s ≡ length w - (slot_from i + m * row_words) = length-drop (slot_from i + m * row_words) w in
-    let e₁ : v ≡ paste w (slot_from j) s (k * row_words) = rw c at e in
-    let rest : List ℕ = drop (slot_from j + k * row_words) w in
-    let lt : length (take (slot_from j) w) ≡ slot_from j = length-take-le (slot_from j) w (omega arith) in
-    let lk : length (take (k * row_words) s) ≡ k * row_words = length-take-le (k * row_words) s (omega arith) in
-    let lv : length v ≡ area_words = ap length e₁ ∙ length-paste w (slot_from j) s (k * row_words) (omega arith) (omega arith) ∙ room in
-    let dv : drop (slot_from j) v ≡ take (k * row_words) s ++ rest =
-    ap (drop (slot_from j)) (e₁ ∙ append_assoc (take (slot_from j) w) (take (k * row_words) s) rest)
-    ∙ drop_at (take (slot_from j) w) (take (k * row_words) s ++ rest) (slot_from j) lt in
+pub copying_next : {w v u : List ℕ} {i m j n k : ℕ} → (i ≡ j → ⊥) → n ≤ most_packets → m + k < n → Copying w i m j n v k
+    → Rowed v u j k (packet_at v i (m + k)) → Copying w i m j n u (k + 1)
+copying_next {w} {v} {u} {i} {m} {j} {n} {k} d f l c r =
+    let e : slot_at v i ≡ slot_at w i = part_out c.out (slot_from i) slot_words (slots_apart j i d) in
     record {
-      here = rw (length_rest w i m n)
-          (rows_words v j k (omega arith) d lv ∙ ap (chunks row_words k) dv
-          ∙ chunks_append row_words k (take (k * row_words) s) rest (omega arith)
-          ∙ sym (chunks_front row_words k s (omega arith))
-          ∙ sym (rows_from w i m n l h g room));
-      out = rw e₁ (outside_wider (slot_from j) (slot_from j + slot_words) (omega arith) (omega arith)
-          (outside_paste w (slot_from j) s (k * row_words) (omega arith) (omega arith)));
+      here = r.here ∙ rw (c.here, e, ← (packet_at_lem w i m n k f l), add-one k)
+          (sym (take-suc (drop m (rows_at w i n)) k [] (omega (arith, length_rest w i m n))));
+      out = outside_then c.out r.out;
     }
+
+pub copying_end : {w v : List ℕ} {i m j n : ℕ} → Copying w i m j n v (n - m) → Slotted w v j (drop m (rows_at w i n))
+copying_end {w} {v} {i} {m} {j} {n} c =
+    let e : length (drop m (rows_at w i n)) ≡ n - m = length_rest w i m n in
+    record { here = rw e (c.here ∙ take_all (n - m) (drop m (rows_at w i n)) (omega arith)); out = c.out }
+
+-- ---- nothing to copy
+
+pub slotted_same : (w : List ℕ) (i n : ℕ) → Slotted w w i (rows_at w i n)
+slotted_same w i n = record { here = rw (length_chunks row_words n (slot_at w i)) refl; out = outside_same w _ _ }

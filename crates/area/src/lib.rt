@@ -10,7 +10,7 @@ mod slots;
 pub use headers::{Header, Phase, finish, head, put_head};
 pub use joins::{bare_packet, lack_slots, pair_slots, union_slots};
 pub use lists::{Ready, give_back, ready_at, relist, take_free};
-pub use slots::{copy_packets, emit_packets, keep_packets, put_packet, set_packets};
+pub use slots::{copy_packets, copy_set, emit_packets, keep_packets, put_packet, set_packets};
 
 // How many positions there are, and how many words a packet has.
 pub const POSITIONS: usize = 160;

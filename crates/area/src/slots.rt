@@ -41,14 +41,25 @@ pub fn move_packet(work: &mut Words, i: usize, k: usize, j: usize, m: usize)
     rows::put_row(&mut work[slot_range(i)], k, &p);
 }
 
-// Packets m to n - 1 of slot i put at the front of slot j.
+// Packets m to n - 1 of slot i put at the front of another slot j. Packet by packet, each one move of eight words: `copy_within` moves
+// word by word, and at room 3 a step took 2.2 times the plain program's with it, and 1.8 so.
 pub fn copy_packets(work: &mut Words, i: usize, m: usize, j: usize, n: usize)
-    requires { (i < positions) × (j < positions) × (m ≤ n) × (n ≤ most_packets) }
+    requires { (i < positions) × (j < positions) × (i ≡ j → ⊥) × (m ≤ n) × (n ≤ most_packets) }
     ensures { Slotted work.old work.new j (drop m (rows_at work.old i n)) }
 {
-    let from = slot_range(i).start;
-    let to = slot_range(j).start;
-    work.copy_within(from + m * ROW_WORDS..from + n * ROW_WORDS, to);
+    for k in 0..n - m {
+        move_packet(work, j, k, i, m + k);
+    }
+}
+
+// The first n packets of slot i put at the front of slot j.
+pub fn copy_set(work: &mut Words, i: usize, j: usize, n: usize)
+    requires { (i < positions) × (j < positions) × (n ≤ most_packets) }
+    ensures { Slotted work.old work.new j (rows_at work.old i n) }
+{
+    if i != j {
+        copy_packets(work, i, 0, j, n);
+    }
 }
 
 // Zeros after the first n packets of slot i.

@@ -149,7 +149,8 @@ pub fn place_after(s: &[u8], at: usize, depth: usize) -> usize
 
 // The length of the body of entry x, as its contents state it.
 pub fn length_of(s: &[u8], x: u8) -> usize
-    ensures { (result ≡ length_at s.now x) × (result ≤ 65535) }
+    ensures length { result ≡ length_at s.now x }
+    ensures small { result ≤ 65535 }
 {
     usize::from(number_at(s, 2 + 4 * usize::from(x)))
 }
@@ -169,7 +170,8 @@ pub fn writes_of(s: &[u8], x: u8) -> u8
 
 // Where the body of entry x starts, by the stated lengths.
 pub fn body_start(s: &[u8], x: u8) -> usize
-    ensures { (result ≡ body_start s.now x) × (result ≤ 1026 + 65535 * x) }
+    ensures place { result ≡ body_start s.now x }
+    ensures small { result ≤ 1026 + 65535 * x }
 {
     let mut at = 6 + 4 * usize::from(byte_at(s, 1));
     for i in 0..x {

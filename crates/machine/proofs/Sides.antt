@@ -206,6 +206,10 @@ module _ {s w : List ℕ} {n i : ℕ} (h : Entering s w n i 7) where
     first_own e =
         omega (arith, h.once i, free_both i, below_one i, times_one i i, same_self i, times_one i l, ap (same i) (sym e))
 
+    pub second_own : i ≡ r → ⊥
+    second_own e =
+        omega (arith, h.once i, free_both i, below_one i, times_one i i, same_self i, times_one i r, ap (same i) (sym e))
+
     two_apart : l ≡ r → ⊥
     two_apart e = omega (arith, h.once l, free_both l, below_one l, times_one l l, same_self l, times_one l r, ap (same l) (sym e))
 

@@ -64,6 +64,12 @@ cut_short input two t e short =
     let tail_long = ap length t in
     rw (← e) (omega arith)
 
+pub fields_few : (book : List ℕ) (z : Sizes) → verdict book ≡ Ok z → z.fields ≤ 8
+unfolding sizes_of
+fields_few book z ok =
+    let fields : z.fields ≡ fields_of book = ap (λ (y : Sizes). y.fields) (accepted_sizes book z ok) in
+    rw fields (accepted_fields book z ok).1
+
 module _ {input book rest : List ℕ} (h : HasBook input book rest) where
   two : 2 ≤ length input
   two = omega (arith, h.whole)
@@ -78,9 +84,6 @@ module _ {input book rest : List ℕ} (h : HasBook input book rest) where
     fields : z.fields ≡ fields_of (book_in input)
     unfolding sizes_of
     fields = ap (λ (y : Sizes). y.fields) (accepted_sizes (book_in input) z (judged yes))
-
-    pub fields_few : z.fields ≤ 8
-    fields_few = rw fields (accepted_fields (book_in input) z (judged yes)).1
 
     pub packet_cut : length rest < 2 * z.fields → printed input ≡ refused_line (no_place PacketLength)
     packet_cut h' = printed_cut_packet input two h.few h.whole z (judged yes) (rw (← fields, ← h.rest_is) h')

@@ -21,6 +21,7 @@ fn opening(word: &str, a: usize, b: usize) -> Text
 }
 
 // refused NUMBER PLACE
+#[tactic(auto, using(crate::proofs::LineLaws::parts), unfolding(crate::specs::Printing::refused_line))]
 pub fn refused(r: Refusal) -> Text
     ensures { result.bytes ≡ refused_line r }
 {
@@ -30,6 +31,7 @@ pub fn refused(r: Refusal) -> Text
 }
 
 // running STEPS LIVE READY
+#[tactic(auto, using(crate::proofs::LineLaws::parts), unfolding(crate::specs::Building::running_line))]
 pub fn running(p: Progress) -> Text
     ensures { result.bytes ≡ running_line p }
 {
@@ -40,6 +42,7 @@ pub fn running(p: Progress) -> Text
 }
 
 // One packet's values, with single blanks between them.
+#[tactic(auto, using(crate::proofs::LineLaws::further_next, crate::proofs::LineLaws::further_none, crate::proofs::LineLaws::values_first, crate::proofs::LineLaws::values_none))]
 fn push_values(text: &mut Text, values: &[u16])
     requires { array_string_len text.old + (21 * length values.now + 1) ≤ MOST_TEXT }
     ensures bytes { text.new.bytes ≡ text.old.bytes ++ values_line values.now }
@@ -55,6 +58,7 @@ fn push_values(text: &mut Text, values: &[u16])
 }
 
 // finished STEPS COUNT, and a line for each of the packets, which stand in the words one after the other, k values each
+#[tactic(auto, using(crate::proofs::LineLaws::packets_room, crate::proofs::LineLaws::packets_next))]
 pub fn finished(f: Finish, k: usize, words: &[u16]) -> Text
     requires one { 0 < k }
     requires eight { k ≤ 8 }

@@ -36,6 +36,7 @@ struct Request<'a> {
     schedule: &'a [u8],
 }
 
+#[tactic(auto, using(crate::proofs::InputLaws::words_last, crate::proofs::InputLaws::words_length))]
 fn packet_of(s: &[u8], k: usize) -> ArrayVec<u16, 8>
     requires { k ≤ 8 }
     ensures { result.items ≡ words_in k s.now }
@@ -48,6 +49,7 @@ fn packet_of(s: &[u8], k: usize) -> ArrayVec<u16, 8>
 }
 
 // The book of an input, and what follows it; or why the input is turned away before the book is read.
+#[tactic(auto, using(crate::proofs::Ways::printed_no_length, crate::proofs::Ways::printed_long_book, crate::proofs::Ways::printed_cut_book, crate::proofs::InputLaws::cut, crate::proofs::InputLaws::cut_short))]
 fn cut_book(input: &[u8]) -> Result<(&[u8], &[u8]), Refusal>
     ensures { MatchResult result (λ cut. HasBook input.now cut.0.now cut.1.now)
         (λ r. printed input.now ≡ refused_line r) }
@@ -62,6 +64,7 @@ fn cut_book(input: &[u8]) -> Result<(&[u8], &[u8]), Refusal>
 }
 
 // The parts of an input, or why it is turned away before the run.
+#[tactic(auto, using(crate::proofs::InputLaws::book_refused, crate::proofs::InputLaws::fields_few, crate::proofs::InputLaws::packet_cut, crate::proofs::InputLaws::schedule_long, crate::proofs::InputLaws::run_asked))]
 fn request_of(input: &[u8]) -> Result<Request<'_>, Refusal>
     ensures { MatchResult result (Asks input.now) (λ r. printed input.now ≡ refused_line r) }
 {
@@ -81,7 +84,8 @@ fn request_of(input: &[u8]) -> Result<Request<'_>, Refusal>
     })
 }
 
-// The answer of the machine, with a result and a working area of its own.
+// The answer of the machine, with a result and a working area of its own. It takes the parts of a request, and not the whole: of a
+// parameter the check knows that its items are bytes, which the packets' lines need, and of a slice in a struct it does not.
 fn print_answer(book: &[u8], packet: &[u16], schedule: &[u8], sizes: Sizes) -> Text
     requires { verdict book.now ≡ Ok sizes }
     ensures { result.bytes ≡ ran_text book.now packet.now schedule.now }

@@ -12,6 +12,7 @@ pub const MOST_TEXT: usize = 4096;
 pub type Text = ArrayString<MOST_TEXT>;
 
 // A number has at most 20 digits.
+#[tactic(auto, using(crate::proofs::DecimalLaws::decimal_is))]
 pub fn push_number(text: &mut Text, n: usize)
     requires { array_string_len text.old + 20 ≤ MOST_TEXT }
     ensures bytes { text.new.bytes ≡ text.old.bytes ++ decimal n }

@@ -3,7 +3,7 @@
 #![tactic(auto)]
 
 ghost use Rattle.std.specs.Prelude.{◌≡◌, cond, [], ◌++◌, ◌*◌, ◌<◌, ◌≤◌, length, take, drop, get_or};
-ghost use Rattle.rules.specs.Packets.{places, most_packets, padded, order_of, passes, put, mix, without, values_of};
+ghost use Rattle.rules.specs.Packets.{places, most_packets, padded, order_of, member, passes, put, mix, without, values_of};
 ghost use Rattle.rules.specs.Masks.{has};
 ghost use Rattle.rows.specs.Chunks.{rows_of, widest, Array, Stored, Copied, Cleared};
 ghost use Rattle.rows.specs.Arrays.{Emitted};
@@ -27,6 +27,7 @@ pub fn put_row<const R: usize>(w: &mut [u16], k: usize, p: &[u16; R])
     ensures { Stored R w.new w.old k p.now }
 {
     let a = k * R;
+    // By value, which is one store: with copy_from_slice here and in copy_rows 4 nested concurrent parts took 7.2 and not 5.3 microseconds.
     for f in 0..R {
         w[a + f] = p[f];
     }
@@ -46,6 +47,7 @@ pub fn copy_rows<const R: usize>(w: &mut [u16], v: &[u16], n: usize)
     requires { (n ≤ most_packets) × Array R w.old × Array R v.now }
     ensures { Copied R w.new w.old v.now n }
 {
+    // By row, and not all words by one copy_from_slice: see put_row.
     for i in 0..n {
         put_row(w, i, row::<R>(v, i));
     }
@@ -73,6 +75,14 @@ pub fn order_row<const R: usize>(p: &[u16; R], w: &[u16], j: usize) -> Ordering
     ensures { result ≡ order_of p.now (get_or (rows_of R w.now) j []) }
 {
     p.cmp(row(w, j))
+}
+
+// Whether a row by itself is one of the first n.
+pub fn has_row<const R: usize>(v: &[u16], n: usize, p: &[u16; R]) -> bool
+    requires { (n ≤ most_packets) × Array R v.now }
+    ensures { result ≡ member p.now (take n (rows_of R v.now)) }
+{
+    v.as_chunks().0[..n].contains(p)
 }
 
 // "test field = value" passes at row i.

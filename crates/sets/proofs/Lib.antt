@@ -2,6 +2,5 @@
 pub mod Rows
 pub mod Merging
 pub mod Inserting
-pub mod Sifting
 pub mod Pairing
 pub mod Whole

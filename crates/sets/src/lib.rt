@@ -8,7 +8,7 @@ ghost use Rattle.std.specs.Prelude.{◌≡◌, true, [], map, ◌+◌, ◌<◌, 
 ghost use Rattle.std.proofs.Math.Seq.{slice};
 ghost use Rattle.rules.specs.Packets.{most_packets, Ascending, passes, put, keep, gathered, union, lacks, mix, pairs};
 ghost use Rattle.rows.specs.Chunks.{rows_of, Array, Packed, Held, Fits};
-ghost use Rattle.sets.specs.Lists.{Placed, Inserted, Joined, Changed, Zeroed, Raised, Lowered, Apart, to_first, from_first};
+ghost use Rattle.sets.specs.Lists.{Placed, Inserted, Joined, Changed, Zeroed, Raised, Lowered, Apart, from_first};
 
 pub use packet_set::{PacketSet, Row, TooWide};
 use rows::MOST;
@@ -35,6 +35,7 @@ fn raise<const R: usize>(v: &mut [u16], i: usize, n: usize, h: usize)
     requires { (i ≤ n) × (n + h ≤ most_packets) × Array R v.old }
     ensures { Raised R v.new v.old i n h }
 {
+    // By row, as the contract speaks; copy_within would name words, which this crate does not.
     for j in (i..n).rev() {
         rows::move_row::<R>(v, j + h, j);
     }
@@ -77,6 +78,7 @@ fn merge_in<const R: usize>(v: &mut [u16], h: usize, e: usize, b: &[u16], m: usi
     let mut i = h;
     let mut j = 0;
     let mut k = 0;
+    // Two lists at once, into the first of them: a turn goes on in one or in both, as no iterator of the library does.
     while j < m {
         let o = weigh::<R>(v, i, e, b, j);
         match o {
@@ -203,39 +205,16 @@ pub fn set_in<const R: usize>(v: &mut [u16], n: usize, f: usize, x: u16) -> usiz
     gather_in::<R>(v, n)
 }
 
-// How row i of a lies to row j of b, which has m packets; before it, where b has no more.
-fn weigh_out<const R: usize>(a: &[u16], i: usize, b: &[u16], j: usize, m: usize) -> Ordering
-    requires { (i < most_packets) × (j ≤ m) × (m ≤ most_packets) × Array R a.now × Array R b.now }
-    ensures { result ≡ to_first (get_or (rows_of R a.now) i []) (slice j m (rows_of R b.now)) }
-{
-    if j < m {
-        rows::order_rows::<R>(a, i, b, j)
-    } else {
-        Ordering::Less
-    }
-}
-
 // The packets of v that are not in b, moved to the front; gives how many they are.
 pub fn difference_in<const R: usize>(v: &mut [u16], n: usize, b: &[u16], m: usize) -> usize
     requires { Packed R v.old n × Packed R b.now m }
     ensures { Held R v.new result (keep (lacks (take m (rows_of R b.now))) (take n (rows_of R v.old))) }
 {
-    let mut i = 0;
-    let mut j = 0;
     let mut k = 0;
-    while i < n {
-        let o = weigh_out::<R>(v, i, b, j, m);
-        match o {
-            Ordering::Less => {
-                rows::move_row::<R>(v, k, i);
-                i += 1;
-                k += 1;
-            }
-            Ordering::Equal => {
-                i += 1;
-                j += 1;
-            }
-            Ordering::Greater => j += 1,
+    for i in 0..n {
+        if !rows::has_row::<R>(b, m, rows::row(v, i)) {
+            rows::move_row::<R>(v, k, i);
+            k += 1;
         }
     }
     rows::clear_rows::<R>(v, k, n);

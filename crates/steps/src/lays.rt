@@ -6,7 +6,7 @@ ghost use Rattle.area.specs.declared.headers.Phase.{Phase};
 ghost use Rattle.steps.specs.State.{Becomes, Laying, Laid};
 
 use crate::marks::MarkedBook;
-use area::{Header, Phase, Words, copy_packets, put_head, take_free};
+use area::{Header, Phase, Words, copy_set, put_head, take_free};
 use rules::{ID, SEQUENCE};
 
 // Position i with its header and the first packets of slot `src`.
@@ -23,7 +23,7 @@ pub fn lay_leaf(
     ensures { Becomes work.old work.new i
         (record { place = at; phase = phase; count = count; up = up; left = 0; right = 0 }) (rows_at work.old src count) }
 {
-    copy_packets(work, src, 0, i, count);
+    copy_set(work, src, i, count);
     let h = Header {
         place: at,
         phase,

@@ -1,6 +1,6 @@
 -- A vector, one case of the trials: what three calls are given, and what is stated of their answers. second/README.md has this layout
 -- in a table. Every number is read past the end of the bytes as 0, so that all bytes are a vector.
-use Rattle.std.specs.Prelude.{ℕ, ◌+◌, ◌*◌, ◌%◌, List, [], ◌∷◌, take, drop, map}
+use Rattle.std.specs.Prelude.{ℕ, ◌+◌, ◌*◌, ◌%◌, List, take, drop, map}
 use Rattle.std.specs.List.{range_with_len}
 use Rattle.rules.specs.Reading.{number_at}
 use Rattle.trials.specs.declared.vectors.Call.{Call}
@@ -56,9 +56,8 @@ answer_place Accept = 18
 answer_place Evaluate = 42
 answer_place Run = 66
 
-abbrev pub numbers_at : List ℕ → ℕ → List ℕ
-numbers_at v at =
-    long_at v at ∷ long_at v (at + 4) ∷ long_at v (at + 8) ∷ long_at v (at + 12) ∷ long_at v (at + 16) ∷ long_at v (at + 20) ∷ []
+unfoldable pub numbers_at : List ℕ → ℕ → List ℕ
+numbers_at v at = map (λ i. long_at v (at + 4 * i)) (range_with_len 0 6)
 
 -- ---- what follows the head, each part right after the one before
 

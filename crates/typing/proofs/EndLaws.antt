@@ -5,12 +5,13 @@ use Prim.Native.Nat.{ℕ, suc, max, ◌+◌, ◌<◌, ◌≤◌}
 use native.Mathlib.Omega.{arith}
 use native.Mathlib.Numerals.{add-one}
 use mathlib.Core.Path.{◌≡◌, refl, sym, ◌∙◌}
-use mathlib.Core.Bool.{Bool, true, false, not, ◌&&◌, true≢false}
+use mathlib.Core.Bool.{Bool, true, false, cond, ◌&&◌, true≢false}
 use mathlib.Core.Logic.{◌⊎◌, ⊎_elim}
 use mathlib.Core.List.{List, [], ◌∷◌}
 use lib.Dec.{leb}
 use lib.ListN.{length}
-use borrow.Author.Tests.{le-leb, leb-true, not-true, not-false}
+use borrow.Author.Tests.{le-leb, leb-true}
+use Rattle.rules.specs.declared.Reason.{Reason}
 use Rattle.rules.specs.declared.Reason.TheVariants.{BookLength, Counts, Lengths, EntryMasks, Form, Limits, Typing}
 use Rattle.rules.specs.Books.{most_bytes, most_fields, most_tables, most_parts, most_beside, first_body, entries}
 use Rattle.rules.specs.Checks.{no_place, in_book}
@@ -131,30 +132,38 @@ module _ (s : List ℕ) (F : Fronted s) where
 bounds : (a b c d : ℕ) → a ≤ b → c ≤ d → (leb a b && leb c d) ≡ true
 bounds a b c d h k = rw (le-leb a b h) (le-leb c d k)
 
-module _ (s : List ℕ) (t1 : Bool) (e1 : t1 ≡ (leb 2 (length s) && leb (length s) most_bytes)) where
-  pub test_1 : not t1 ≡ true → Err (no_place BookLength) ≡ verdict s
-  test_1 q =
-      sym (refused_length s (λ k.
-      absurd (true≢false (sym (bounds 2 (length s) (length s) most_bytes k.0 k.1) ∙ sym e1 ∙ not-true t1 q))))
+-- what a check that fails, or holds, says
+pub check_off : (t : Bool) (why r : Reason) (x : Result Unit Reason) → x ≡ cond t (Ok tt) (Err why) → x ≡ Err r → (t ≡ false) × (r ≡ why)
+check_off true why r x e q = let z : Ok tt ≡ Err r = sym e ∙ q in absurd cc
+check_off false why r x e q = let z : Err why ≡ Err r = sym e ∙ q in (refl, cc)
 
-  module _ (q1 : not t1 ≡ false) (t2 : Bool) (k m : ℕ) (ek : k ≡ fields_of s) (em : m ≡ tables_of s)
+pub check_on : (t : Bool) (why : Reason) (u : Unit) (x : Result Unit Reason) → x ≡ cond t (Ok tt) (Err why) → x ≡ Ok u → t ≡ true
+check_on true why u x e q = refl
+check_on false why u x e q = let z : Err why ≡ Ok u = sym e ∙ q in absurd cc
+
+module _ (s : List ℕ) (t1 : Bool) (e1 : t1 ≡ (leb 2 (length s) && leb (length s) most_bytes)) where
+  pub test_1 : t1 ≡ false → Err (no_place BookLength) ≡ verdict s
+  test_1 q =
+      sym (refused_length s (λ k. absurd (true≢false (sym (bounds 2 (length s) (length s) most_bytes k.0 k.1) ∙ sym e1 ∙ q))))
+
+  module _ (q1 : t1 ≡ true) (t2 : Bool) (k m : ℕ) (ek : k ≡ fields_of s) (em : m ≡ tables_of s)
       (e2 : t2 ≡ (leb 1 k && (leb k most_fields && leb m most_tables))) where
     long : LengthKept s
     long =
-        let b = and_was (leb 2 (length s)) (leb (length s) most_bytes) (sym e1 ∙ not-false t1 q1) in
+        let b = and_was (leb 2 (length s)) (leb (length s) most_bytes) (sym e1 ∙ q1) in
         (leb-true 2 (length s) b.0, leb-true (length s) most_bytes b.1)
 
-    pub test_2 : not t2 ≡ true → Err (no_place Counts) ≡ verdict s
+    pub test_2 : t2 ≡ false → Err (no_place Counts) ≡ verdict s
     test_2 q =
         sym (refused_counts s long (λ c.
         let t : (leb 1 k && (leb k most_fields && leb m most_tables)) ≡ true =
         rw (ek, em, le-leb 1 (fields_of s) c.0) (bounds (fields_of s) most_fields (tables_of s) most_tables c.1 c.2) in
-        absurd (true≢false (sym t ∙ sym e2 ∙ not-true t2 q))))
+        absurd (true≢false (sym t ∙ sym e2 ∙ q))))
 
-    module _ (q2 : not t2 ≡ false) (e : ℕ) (e3 : e ≡ body_start s (m + 1)) where
+    module _ (q2 : t2 ≡ true) (e : ℕ) (e3 : e ≡ body_start s (m + 1)) where
       few : CountsKept s
       few =
-          let b2 = and_was (leb 1 k) (leb k most_fields && leb m most_tables) (sym e2 ∙ not-false t2 q2) in
+          let b2 = and_was (leb 1 k) (leb k most_fields && leb m most_tables) (sym e2 ∙ q2) in
           let b3 = and_was (leb k most_fields) (leb m most_tables) b2.1 in
           rw (← ek, ← em) (leb-true 1 k b2.0, leb-true k most_fields b3.0, leb-true m most_tables b3.1)
 
@@ -165,5 +174,5 @@ module _ (s : List ℕ) (t1 : Bool) (e1 : t1 ≡ (leb 2 (length s) && leb (lengt
       test_3 q = sym (refused_lengths s long few (λ l. q (sym next_table ∙ l)))
 
       module _ (q3 : e ≡ length s) (t4 : Bool) (e4 : t4 ≡ masks_right s (suc (tables_of s)) 0) where
-        pub test_4 : not t4 ≡ true → Err (no_place EntryMasks) ≡ verdict s
-        test_4 q = sym (refused_masks s long few (next_table ∙ q3) (sym e4 ∙ not-true t4 q))
+        pub test_4 : t4 ≡ false → Err (no_place EntryMasks) ≡ verdict s
+        test_4 q = sym (refused_masks s long few (next_table ∙ q3) (sym e4 ∙ q))

@@ -18,7 +18,7 @@ use Rattle.rules.specs.Codes.{shape_at, operands_of, parts_of}
 use Rattle.rules.specs.Masks.{field}
 use Rattle.rules.specs.Parts.{Part, Id, write, size, parts}
 use Rattle.rules.specs.Typing.{tested, written}
-use Rattle.rules.specs.Books.{Scope}
+use Rattle.rules.specs.Books.{Scope, most_bytes}
 use Rattle.rules.specs.Reading.{read_operands, stands, read_part, head, head_at, part_at, built, fields_of, tables_of, reads_at, writes_at}
 use Rattle.rules.proofs.ReadingLaws.{head_is, operands_none, operands_were, use_known, part_wrong, byte_next, byte_wrong, then_next}
 use Rattle.rules.proofs.ReadingLaws.{stands_37, stands_8, stands_known}
@@ -136,7 +136,7 @@ module _ (s : List ℕ) (st : State) (code : ℕ) (lo : 2 ≤ code) (up : code <
 -- a use of a table
 module _ (s : List ℕ) (n : Notes) (st : State) (way : Way) (a : LeafAsked s n st way) (e : ℕ) (r : Result ℕ ℕ)
     (q : r ≡ read_operands s (fields_of s) (tables_of s) 8 st.at) (re : r ≡ Ok e) (h : Head) (eh : h ≡ head s st.at) where
-  pub use_asked : (length n.uses ≡ 16) × (h.table < 16) × ((get_or n.uses h.table unused).count ≤ 4096)
+  pub use_asked : (length n.uses ≡ 16) × (h.table < 16) × ((get_or n.uses h.table unused).count ≤ most_bytes)
   use_asked =
       let k = use_known s (fields_of s) (tables_of s) st.at e (sym q ∙ re) in
       let x : h.table ≡ (head s st.at).table = ap (λ (h : Head). h.table) eh in

@@ -7,4 +7,4 @@ pub loop-i-init : goal.loop-i-init
 loop-i-init c = (rw c.from.ensures (start_zero _ _ c.byte_at.ensures), search rules)
 
 pub loop-i-preserved : goal.loop-i-preserved
-loop-i-preserved c = (start_more _ _ _ _ c.loop-i.invariant.0 c.length_of-at.ensures.0, search rules)
+loop-i-preserved c = (start_more _ _ _ _ c.loop-i.invariant.0 c.length_of-at.ensures.length, search rules)

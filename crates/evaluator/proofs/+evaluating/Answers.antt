@@ -236,16 +236,16 @@ table_at-returns-in-Table t c =
 
 pub table_at-evaluate_part-requires : goal.table_at-evaluate_part-requires
 table_at-evaluate_part-requires t c =
-    down_table t (table_used _ _ _ _ c.in-Main.is c.body_start-start.ensures.0 c.requires.closed) c.decreases c.requires
+    down_table t (table_used _ _ _ _ c.in-Main.is c.body_start-start.ensures.place c.requires.closed) c.decreases c.requires
 
 pub table_at-returns-in_err-part-in-Main : goal.table_at-returns-in_err-part-in-Main
 table_at-returns-in_err-part-in-Main t c =
-    rw ((table_used _ _ _ _ c.in-Main.is c.body_start-start.ensures.0 c.requires.closed), handed_up c.from_residual.ensures.1) (over_table _ _ c.in_err-part-in-Main.ensures _ _ _ _)
+    rw ((table_used _ _ _ _ c.in-Main.is c.body_start-start.ensures.place c.requires.closed), handed_up c.from_residual.ensures.1) (over_table _ _ c.in_err-part-in-Main.ensures _ _ _ _)
 
 pub table_at-table_of-requires : goal.table_at-table_of-requires
 table_at-table_of-requires t c =
-    small_table (table_used _ _ _ _ c.in-Main.is c.body_start-start.ensures.0 c.requires.closed) c.requires c.in_ok-part-in-Main.ensures
+    small_table (table_used _ _ _ _ c.in-Main.is c.body_start-start.ensures.place c.requires.closed) c.requires c.in_ok-part-in-Main.ensures
 
 pub table_at-returns-in_ok-part-in-Main : goal.table_at-returns-in_ok-part-in-Main
 table_at-returns-in_ok-part-in-Main t c =
-    rw ((table_used _ _ _ _ c.in-Main.is c.body_start-start.ensures.0 c.requires.closed), c.table_of.ensures) (gives_table c.in_ok-part-in-Main.ensures _ _ _ _ _)
+    rw ((table_used _ _ _ _ c.in-Main.is c.body_start-start.ensures.place c.requires.closed), c.table_of.ensures) (gives_table c.in_ok-part-in-Main.ensures _ _ _ _ _)

@@ -9,9 +9,9 @@ loop-x-init c = λ y l u e. omega arith
 
 pub loop-x-preserved : goal.loop-x-preserved
 loop-x-preserved c =
-    populated_next c.args.book.now _ c.loop-x.invariant (λ e. c.if-length_of-eq0.false (c.length_of.ensures.0 ∙ e))
+    populated_next c.args.book.now _ c.loop-x.invariant (λ e. c.if-length_of-eq0.false (c.length_of.ensures.length ∙ e))
 
 pub returns-else-length_of-eq0 : goal.returns-else-length_of-eq0
 returns-else-length_of-eq0 c =
-    let next = populated_next c.args.book.now _ c.loop-x.invariant (λ e. c.if-length_of-eq0.false (c.length_of.ensures.0 ∙ e)) in
+    let next = populated_next c.args.book.now _ c.loop-x.invariant (λ e. c.if-length_of-eq0.false (c.length_of.ensures.length ∙ e)) in
     λ e x p u. next x p (omega (arith, c.byte_at-x-end.ensures))

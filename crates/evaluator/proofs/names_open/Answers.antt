@@ -13,7 +13,7 @@ not_some r false e = rw e
 
 pub returns-then-not-all_populated : goal.returns-then-not-all_populated
 returns-then-not-all_populated c =
-    not_some _ _ c.is_none.ensures ∙ sym (open_is _ _ c.body_start.ensures.0 _ _ c.look_part.ensures)
+    not_some _ _ c.is_none.ensures ∙ sym (open_is _ _ c.body_start.ensures.place _ _ c.look_part.ensures)
 
 pub returns-else-not-all_populated : goal.returns-else-not-all_populated
 returns-else-not-all_populated c =

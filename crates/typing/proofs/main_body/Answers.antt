@@ -11,20 +11,20 @@ pub slice_bounds-whole-end : goal.slice_bounds-whole-end
 slice_bounds-whole-end c =
     sym
     (length-take-le _ _
-    (end_in _ c.requires.0 false 0 (omega arith) _ _ c.body_start-at.ensures.0 c.length_of.ensures.0))
+    (end_in _ c.requires.0 false 0 (omega arith) _ _ c.body_start-at.ensures.place c.length_of.ensures.length))
 
 pub whole-requires : goal.whole-requires
 whole-requires c =
-    entry_asked _ c.requires.0 false 0 (omega arith) _ _ c.body_start-at.ensures.0 c.length_of.ensures.0 _
+    entry_asked _ c.requires.0 false 0 (omega arith) _ _ c.body_start-at.ensures.place c.length_of.ensures.length _
     c.requires.1.room (λ x. rw (c.requires.1.clean x) (omega arith))
 
 pub returns-in_err-st : goal.returns-in_err-st
 returns-in_err-st c =
     rw (handed_up c.from_residual.ensures.1)
-    (main_off _ c.requires.0 _ _ c.body_start-at.ensures.0 c.length_of.ensures.0 _ c.requires.1 _ _ c.whole.ensures _ c.in_err-st.was)
+    (main_off _ c.requires.0 _ _ c.body_start-at.ensures.place c.length_of.ensures.length _ c.requires.1 _ _ c.whole.ensures _ c.in_err-st.was)
 
 pub returns : goal.returns
 returns c =
-    main_on _ c.requires.0 _ _ c.body_start-at.ensures.0 c.length_of.ensures.0 _ c.requires.1 _ _ c.whole.ensures _ c.in_ok-st.was
+    main_on _ c.requires.0 _ _ c.body_start-at.ensures.place c.length_of.ensures.length _ c.requires.1 _ _ c.whole.ensures _ c.in_ok-st.was
     _ _ _ c.reads_of.ensures c.writes_of.ensures c.fit_state-fits.ensures _ refl c.from.ensures c.from-2.ensures
     c.first_unfit.ensures

@@ -2,7 +2,7 @@
 use native.Mathlib.Omega.{arith}
 use mathlib.Core.Path.{ap}
 use Rattle.area.specs.declared.headers.Header.{Header}
-use Rattle.machine.proofs.Sides.{split_room, first_small, second_small, split_entered}
+use Rattle.machine.proofs.Sides.{split_room, first_small, second_small, second_own, split_entered}
 use Rattle.machine.proofs.beside.enter_split.Goals as goal
 
 pub take_free-l-requires : goal.take_free-l-requires
@@ -24,7 +24,9 @@ copy_packets-requires c =
     let l = second_small c.requires.entering _ _ (split_room c.requires.entering c.requires.many) c.take_free-l.ensures
     c.take_free-r.ensures in
     let k = ap (λ (h : Header). h.count) c.head-h.ensures in
-    (c.requires.entering.there, l, omega (arith, c.requires.many, k), omega (arith, c.requires.entering.slim, k))
+    let d = second_own c.requires.entering _ _ (split_room c.requires.entering c.requires.many) c.take_free-l.ensures
+    c.take_free-r.ensures in
+    (c.requires.entering.there, l, d, omega (arith, c.requires.many, k), omega (arith, c.requires.entering.slim, k))
 
 pub put_head-requires : goal.put_head-requires
 put_head-requires c =

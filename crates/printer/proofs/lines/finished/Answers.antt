@@ -2,7 +2,7 @@
 use Rattle.std.proofs.Common.{◌++◌, length-append, append_assoc, ◌∙◌, rules, arith, lit<}
 use Rattle.printer.specs.Printing.{finished_word, blank_then, line_end}
 use Rattle.printer.specs.Building.{lines_of, finished_lines}
-use Rattle.printer.proofs.LineLaws.{parts, packets_all, packets_room, packets_next, packets_none}
+use Rattle.printer.proofs.LineLaws.{parts, packets_all, packets_none}
 use Rattle.printer.proofs.lines.finished.Goals as goal
 
 pub loop-packet-init : goal.loop-packet-init
@@ -11,25 +11,6 @@ loop-packet-init c =
     let all = packets_all c.args.k c.args.f.count c.args.words.now c.push.new.self.bytes r.few r.room
     (rw (c.push.ensures.ascii (lit< tt), length-append) (omega arith)) in
     (search rules, tt, search rules, rw (c.into_iter-packet-iterator.ensures.into_iter_gives, c.chunks_exact-packet-items.ensures.rest) all)
-
-pub push_values-requires : goal.push_values-requires
-push_values-requires c =
-    let r = c.requires in
-    let steps = c.in-Some.ensures.steps.1 in
-    let here = c.loop-packet.invariant in
-    packets_room c.in-Some.packet.now c.next.new.self.rest.now r.eight r.one (steps.1 ∙ here.2) (rw steps.0 at here.3)
-
-pub loop-packet-preserved : goal.loop-packet-preserved
-loop-packet-preserved c =
-    let r = c.requires in
-    let steps = c.in-Some.ensures.steps in
-    let here = c.loop-packet.invariant in (
-      rw steps.0 here.0,
-      tt,
-      steps.0 ∙ here.2,
-      packets_next c.in-Some.packet.now c.next.new.self.rest.now r.eight r.one (steps.1.1 ∙ here.2) (rw steps.1.0 at here.3)
-          c.push_values.ensures.bytes c.push_values.ensures.few,
-    )
 
 pub returns : goal.returns
 unfolding finished_lines
