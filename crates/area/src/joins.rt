@@ -83,7 +83,7 @@ fn order_packets(work: &Words, l: usize, x: usize, r: usize, y: usize) -> Orderi
     requires { (l < positions) × (x < most_packets) × (r < positions) × (y < most_packets) }
     ensures { result ≡ order_of (packet_at work.now l x) (packet_at work.now r y) }
 {
-    rows::order_rows::<ROW_WORDS>(&work[slot_range(l)], x, &work[slot_range(r)], y)
+    rows::order_row::<ROW_WORDS>(rows::row(&work[slot_range(l)], x), &work[slot_range(r)], y)
 }
 
 // The next packet of a union: its slot and its row there, and where the two sets go on after it.
@@ -120,7 +120,8 @@ fn lead(work: &Words, l: usize, r: usize, a: usize, b: usize, x: usize, y: usize
     }
 }
 
-// The a packets of slot l and the b of slot r merged into slot i. Gives how many they are.
+// The a packets of slot l and the b of slot r merged into slot i. Gives how many they are. A `while`, since `lead` alone says which of the
+// two sets goes on, or both.
 pub fn union_slots(work: &mut Words, i: usize, l: usize, r: usize, a: usize, b: usize) -> usize
     requires { Three work.old i l r a b × (length (union (rows_at work.old l a) (rows_at work.old r b)) ≤ most_packets) }
     ensures { Filled work.old work.new i result

@@ -19,6 +19,8 @@ use Rattle.rows.specs.Arrays.{Emitted, onto}
 use Rattle.rows.proofs.Chunks.{length_chunks}
 use Rattle.links.specs.Nets.{waits, keeps, Net, rest, over, one, two, above, bare, root, AllShow}
 use Rattle.links.proofs.Times.{live_foot}
+use Rattle.std.specs.Array.{IsFirstChunk}
+use Rattle.std.proofs.lemmas.List.{take-append-drop}
 use Rattle.area.specs.Words.{positions, row_words, area_words, nobody, header_at, rows_at}
 use Rattle.steps.specs.State.{showing, set_at, Holds}
 use Rattle.machine.specs.Runs.{Slim, Fit, Playable, Played}
@@ -95,6 +97,10 @@ module _ (s v : List ℕ) (n r k : ℕ) (t : Tree) (bs : List ℕ) (p : Played s
           let q : b ≡ true = d.fits ∙ ap (λ (u : List ℕ). leb (length u) (length o)) y ∙ le-leb (length words) (length o) l in
           rw finish_is (d.words ∙ ap (λ (c : Bool). onto c (values_of x (rows_at v 0 count)) o) q
           ∙ ap (λ (u : List ℕ). u ++ drop (length u) o) y)
+
+-- the area given back as it was lent
+pub given_back : {w a : List ℕ} → IsFirstChunk w a area_words → a ++ drop area_words w ≡ w
+given_back {w} f = ap (λ (x : List ℕ). x ++ drop area_words w) f.same ∙ take-append-drop area_words w
 
 -- the area cleared, and what stands past it
 pub cleared : (w u : List ℕ) → u ≡ replicate area_words 0 → u ++ drop area_words w ≡ overwritten (replicate area_words 0) w

@@ -12,33 +12,10 @@ ghost use Rattle.std.specs.Prelude.{◌≡◌};
 ghost use Rattle.rules.specs.Reading.{verdict};
 ghost use Rattle.std.specs.Prelude.{Ok};
 ghost use Rattle.rules.specs.Promises.{RunAnswer};
-ghost use Rattle.machine.specs.Answered.{Weighed};
 
 use area::{AREA_WORDS, POSITIONS};
 use play::conduct;
 use rules::{Ran, Reason, Refusal, Sizes};
-
-// The run of a book and a packet that are past 1 to 10, with the room that it needs: 11 is left.
-fn run_weighed(
-    book: &[u8],
-    packet: &[u16],
-    schedule: &[u8],
-    res: &mut [u16],
-    work: &mut [u16],
-    room: u64,
-) -> Result<Ran, Refusal>
-    requires { Weighed book.now packet.now res.old work.old room }
-    ensures { RunAnswer book.now packet.now schedule.now res.old
-        work.old result res.new work.new }
-{
-    if room > POSITIONS as u64 {
-        return Err(Reason::Positions.into());
-    }
-    let Some(area) = work.first_chunk_mut::<AREA_WORDS>() else {
-        unreachable!()
-    };
-    Ok(conduct(book, packet, schedule, res, area))
-}
 
 // The run of an accepted book, for a caller that has its sizes: 8, 12, 9, 10 and 11 in this order. Of the evaluator's answer nothing is
 // used but the refusal and the room.
@@ -61,11 +38,14 @@ pub fn run_accepted(
     if res.len() < 16 * k {
         return Err(Reason::BufferLength.into());
     }
-    if work.len() < AREA_WORDS {
+    let Some(area) = work.first_chunk_mut::<AREA_WORDS>() else {
         return Err(Reason::BufferLength.into());
-    }
+    };
     let weight = evaluator::weigh(book, packet)?;
-    run_weighed(book, packet, schedule, res, work, weight.room)
+    if weight.room > POSITIONS as u64 {
+        return Err(Reason::Positions.into());
+    }
+    Ok(conduct(book, packet, schedule, res, area))
 }
 
 // A book's bytes, a packet's words and a schedule of choices run in a lent working area: document 01's answer, and both buffers after it.

@@ -61,14 +61,6 @@ pub fn clear_rows<const R: usize>(v: &mut [u16], k: usize, n: usize)
     v[k * R..n * R].fill(0);
 }
 
-// How row i of v lies to row j of w.
-pub fn order_rows<const R: usize>(v: &[u16], i: usize, w: &[u16], j: usize) -> Ordering
-    requires { (i < most_packets) × (j < most_packets) × Array R v.now × Array R w.now }
-    ensures { result ≡ order_of (get_or (rows_of R v.now) i []) (get_or (rows_of R w.now) j []) }
-{
-    row::<R>(v, i).cmp(row(w, j))
-}
-
 // How a row by itself lies to row j.
 pub fn order_row<const R: usize>(p: &[u16; R], w: &[u16], j: usize) -> Ordering
     requires { (j < most_packets) × Array R w.now }

@@ -102,10 +102,6 @@ raised_apart {r} {w} {w₀} n m h e d l f q a =
 
 -- ---- the rest lowered
 
-pub lowering_start : {r : ℕ} {v : List ℕ} (k i e : ℕ) → Array r v
-    → Sliding r v v i k (slice i e (rows_of r v)) (take k (rows_of r v) ++ slice i e (rows_of r v))
-lowering_start k i e a = record { array = a; tail = refl; same = refl }
-
 pub lowering_next : {r : ℕ} {w' w x : List ℕ} {c : ℕ} {whole : Packets} (a e : ℕ) → Sliding r w x a c (slice a e (rows_of r x)) whole
     → a < e → e ≤ 16 → c ≤ a
     → Stored r w' w c (get_or (rows_of r w) a []) → Sliding r w' x (a + 1) (c + 1) (slice (a + 1) e (rows_of r x)) whole

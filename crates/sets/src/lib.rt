@@ -47,7 +47,7 @@ fn weigh<const R: usize>(a: &[u16], i: usize, e: usize, b: &[u16], j: usize) -> 
     ensures { result ≡ from_first (slice i e (rows_of R a.now)) (get_or (rows_of R b.now) j []) }
 {
     if i < e {
-        rows::order_rows::<R>(a, i, b, j)
+        rows::order_row::<R>(rows::row(a, i), b, j)
     } else {
         Ordering::Greater
     }
@@ -166,7 +166,7 @@ fn ascends<const R: usize>(v: &[u16], n: usize) -> bool
     ensures { result ≡ true → Ascending (take n (rows_of R v.now)) }
 {
     for i in (1..n).rev() {
-        let o = rows::order_rows::<R>(v, i - 1, v, i);
+        let o = rows::order_row::<R>(rows::row(v, i - 1), v, i);
         match o {
             Ordering::Less => {}
             Ordering::Equal => return false,

@@ -2,7 +2,7 @@
 ghost use Rattle.std.specs.Prelude.{◌≡◌, ◌<◌, ◌≤◌, length, get_or};
 ghost use Rattle.rules.specs.Books.{most_bytes, most_depth};
 ghost use Rattle.rules.specs.Reading.{head_at, after, body_start};
-ghost use Rattle.steps.specs.Standing.{Runnable, Readable, end_by};
+ghost use Rattle.steps.specs.Standing.{Runnable, Readable, Marked, end_by};
 
 use rules::{Head, MOST_BYTES};
 use std::marker::Model;
@@ -31,9 +31,7 @@ impl<'a> MarkedBook<'a> {
         requires { Readable bytes.now }
         ensures { result ≡ bytes.now }
     {
-        for at in (0..bytes.len()).rev() {
-            ends[at] = end_by(bytes, ends, at);
-        }
+        mark(bytes, ends);
         MarkedBook { bytes, ends }
     }
 
@@ -66,6 +64,16 @@ impl<'a> MarkedBook<'a> {
         ensures readable { Readable self.now }
     {
         book::body_start(self.bytes, x)
+    }
+}
+
+// The table of a book, from its last place on.
+fn mark(bytes: &[u8], ends: &mut [u16])
+    requires { (length bytes.now ≤ most_bytes) × (length bytes.now ≤ length ends.old) }
+    ensures { Marked bytes.now ends.new }
+{
+    for at in (0..bytes.len()).rev() {
+        ends[at] = end_by(bytes, ends, at);
     }
 }
 

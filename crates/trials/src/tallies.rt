@@ -43,7 +43,7 @@ fn ask(question: Question, v: &[u8]) -> bool
 {
     match question {
         Question::Differs => !agrees(v),
-        Question::Answered(call) => refused_by(v, call).is_none(),
+        Question::Answered(call) => refused_by(v, call).unwrap_or(0) == 0,
         Question::Refused(call, number) => refused_by(v, call) == Some(number),
     }
 }

@@ -1,4 +1,8 @@
 -- `head_at` meets its contract. Assumes nothing.
+use Prim.Native.Nat.{◌+◌}
+use native.Mathlib.Omega.{arith}
+use mathlib.Core.Path.{◌≡◌, refl}
+use borrow.Author.Rules.{rules}
 use Rattle.book.proofs.OperandLaws.{head_none, head_there}
 use Rattle.book.proofs.head_at.Goals as goal
 
@@ -7,6 +11,5 @@ returns-then-s-at c = head_none _ _ c.if-s-at.true
 
 pub returns : goal.returns
 returns c =
-    head_there _ _ _ _ _ _ c.if-s-at.false c.byte_at-first.ensures c.number_at.ensures
-    c.byte_at.ensures
-    c.shape_of-shape.ensures
+    let e : c.args.at + 2 + 1 ≡ c.args.at + 3 = omega arith in
+    head_there _ _ _ _ _ _ c.if-s-at.false refl (rw e (search rules)) refl c.shape_of-shape.ensures

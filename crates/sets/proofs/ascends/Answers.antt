@@ -1,6 +1,5 @@
 -- The rows from i - 1 on ascend.
-use Prim.Native.Nat.{◌-◌}
-use mathlib.Core.Path.{◌≡◌, sym, ◌∙◌}
+use mathlib.Core.Path.{sym, ◌∙◌}
 use native.Mathlib.Omega.{arith}
 use Rattle.rows.specs.Chunks.{rows_of}
 use Rattle.rows.proofs.Chunks.{length_rows_lem}
@@ -15,10 +14,7 @@ loop-i-init g c =
 pub loop-i-preserved : goal.loop-i-preserved
 loop-i-preserved g c =
     let R = rows_of g.row.R c.args.v.now in
-    let e = sym c.order_rows-o.ensures ∙ c.in-Less.is in
+    let e = sym (rw c.row.ensures at c.order_row-o.ensures) ∙ c.in-Less.is in
     let n = ascends_next R c.args.n c.loop-i.i c.loop-i-test.true c.loop-i.auto.i
     (omega (arith, length_rows_lem g.row.R c.args.v.now, c.requires.0)) in
     n c.loop-i.invariant e
-
-pub returns : goal.returns
-returns g c = let e : c.loop-i.i - 1 ≡ 0 = omega (arith, c.loop-i-test.false) in λ _. rw e at c.loop-i.invariant

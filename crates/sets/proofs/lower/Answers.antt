@@ -2,17 +2,11 @@
 use Prim.Native.Nat.{◌+◌, ◌-◌}
 use mathlib.Core.Path.{◌≡◌, refl}
 use native.Mathlib.Omega.{arith}
-use Rattle.sets.proofs.Merging.{lowering_start, lowering_next, lowered, lowered_same}
+use Rattle.sets.proofs.Merging.{lowering_next, lowered, lowered_same}
 use Rattle.sets.proofs.lower.Goals as goal
 
 pub returns-then-k-i : goal.returns-then-k-i
 returns-then-k-i g c = lowered_same _ _ _ c.if-k-i.true c.requires.1 c.requires.3
-
-pub loop-a-init : goal.loop-a-init
-loop-a-init g c =
-    let x = c.args in
-    let e : x.k + (x.i - x.i) ≡ x.k = omega arith in
-    rw e (lowering_start x.k x.i x.e c.requires.3)
 
 pub loop-a-preserved : goal.loop-a-preserved
 loop-a-preserved g c =

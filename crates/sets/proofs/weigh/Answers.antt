@@ -10,4 +10,4 @@ pub returns-then-i-e : goal.returns-then-i-e
 returns-then-i-e g c =
     let a = c.args in
     let R = rows_of g.row.R a.a.now in
-    rw (slice_at R a.i a.e (search rules) (omega (arith, length_rows_lem g.row.R a.a.now, c.requires))) c.order_rows.ensures
+    rw (slice_at R a.i a.e (search rules) (omega (arith, length_rows_lem g.row.R a.a.now, c.requires))) (rw c.row.ensures at c.order_row.ensures)

@@ -6,5 +6,5 @@ use Rattle.area.proofs.joins.order_packets.Goals as goal
 
 pub returns : goal.returns
 returns c =
-    c.order_rows.ensures
-    ∙ ap₂ (λ (p q : Packet). order_of p q) (lent_packet _ c.slot_range.ensures _ _) (lent_packet _ c.slot_range-2.ensures _ _)
+    c.order_row.ensures
+    ∙ ap₂ (λ (p q : Packet). order_of p q) (c.row.ensures ∙ lent_packet _ c.slot_range.ensures _ _) (lent_packet _ c.slot_range-2.ensures _ _)

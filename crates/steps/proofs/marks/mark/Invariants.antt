@@ -1,6 +1,6 @@
--- What the loop of `MarkedBook::new` keeps.
+-- What the loop of `marks::mark` keeps.
 use Rattle.steps.proofs.Marking.{MarkedFrom}
-use Rattle.steps.proofs.marks.MarkedBook.new.Given as goal
+use Rattle.steps.proofs.marks.mark.Given as goal
 
 abbrev pub invariant-loop-at : goal.invariant-loop-at
 invariant-loop-at l = MarkedFrom l.bytes l.ends l.at
