@@ -27,7 +27,7 @@ def code(text):
     return [(i + 1, l) for i, l in enumerate(text.split('\n')) if not l.strip().startswith('//')]
 
 def functions(text):
-    for m in re.finditer(r'^( *)(?:#\[.*\]\n *)?(?:pub )?(?:extern "C" )?(?:const )?fn (\w+)(?:<[^>]*>)?\(([^{]*?)\)(?: -> [^\n{]*)?\n(.*?)^\1\{', text, re.S | re.M):
+    for m in re.finditer(r'^( *)(?:#\[[^\n]*\]\n *)*(?:pub )?(?:extern "C" )?(?:const )?fn (\w+)(?:<[^>]*>)?\(([^{]*?)\)(?: -> [^\n{]*)?\n(.*?)^\1\{', text, re.S | re.M):
         yield m.group(2), m.group(3), m.group(4), text.count('\n', 0, m.start()) + 1
 
 def clauses(head, word):

@@ -27,7 +27,7 @@ impl From<Phase> for u16 {
     }
 }
 
-// The phase that a word stands for.
+// The phase that a word stands for. For every word: one above 6, which no area has, is read as Paired.
 impl From<u16> for Phase {
     ghost from_gives = { λ w p. p ≡ phase_at w };
 

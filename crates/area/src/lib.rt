@@ -1,5 +1,8 @@
 // The words of the working area: positions that never move, each with a header and a slot of packets; a list of ready numbers and one
-// of free numbers. The layout is two numbers, and what follows from them.
+// of free numbers. The layout is two numbers, and what follows from them. Positions are numbers and no boxes, and the lists have their
+// lengths outside: the area is lent, its layout is fixed, and a run asks for no memory. A number is shown to be a position's where it is
+// used: read from a word of the area, it would have to be shown to be one before a type could say it. Places, positions and counts are
+// cast to words: the contracts keep them small, so that `try_from` would add a path that is never taken.
 #![tactic(auto)]
 
 mod headers;
@@ -36,5 +39,5 @@ pub const AREA_WORDS: usize = SLOTS_FROM + POSITIONS * SLOT_WORDS;
 // The words of an area.
 pub type Words = [u16; AREA_WORDS];
 
-// No position's number: the word that stands above the root.
+// No position's number: the word that stands above the root. A number, since it is a word of the lent area; `rise` alone asks for it.
 pub const NOBODY: u16 = POSITIONS as u16;

@@ -6,7 +6,7 @@ ghost use Rattle.area.specs.Ready.{numbers, ready_of, risen_at, news_at, Above, 
 use crate::headers::{Phase, done_at, head};
 use crate::{FREE_FROM, NOBODY, READY_FROM, Words};
 
-// The positions that a step leaves ready: none where it is finished, one, or two from left to right.
+// The positions that a step leaves ready: none where it is finished, one, or two from left to right, and so no Option.
 #[derive(Clone, Copy)]
 pub enum Ready {
     Nobody,

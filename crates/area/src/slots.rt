@@ -70,7 +70,7 @@ pub fn tidy(work: &mut Words, i: usize, n: usize)
     rows::clear_rows::<ROW_WORDS>(&mut work[slot_range(i)], n, MOST_PACKETS);
 }
 
-// How many of the one packet of slot i pass a test.
+// How many of the one packet of slot i pass a test. One packet alone is looked at where it stands; nothing is cleared or copied for it.
 fn keep_one(work: &Words, i: usize, f: usize, x: u16) -> usize
     requires { i < positions }
     ensures { Filled work.now work.now i result (keep (passes f x) (rows_at work.now i 1)) }

@@ -82,7 +82,7 @@ pub fn head_at(s: &[u8], at: usize) -> Head
     }
 }
 
-// ---- operands: the place of the first that is there and cannot stand
+// ---- operands: the place of the first that is there and cannot stand. That a part stands there is tested once, in `read_operands`.
 
 // A field of k or more.
 fn field_wrong(s: &[u8], at: usize) -> Option<usize>
@@ -152,7 +152,8 @@ pub fn read_operands(s: &[u8], code: u8, at: usize) -> Result<usize, usize>
     if s.len() < end { Err(s.len()) } else { Ok(end) }
 }
 
-// The place after the part at a place, at most depth deep. Past the end and below the depth stands nothing.
+// The place after the part at a place, at most depth deep. Past the end and below the depth stands nothing. The evaluator looks for a table
+// and the machine marks ends on the same way down: each with a question of its own, which a closure would put into every clause.
 pub fn place_after(s: &[u8], at: usize, depth: usize) -> usize
     ensures { result ≡ after s.now depth at }
 {

@@ -81,7 +81,7 @@ fn set_of(field: u8, value: u16, set: &mut PacketSet, next: usize) -> Worked
     leaf(1, next)
 }
 
-// Without the packets given: packet by packet, not by whether there are any.
+// Without the packets given: packet by packet, not by whether there are any. A function of its own, for the edit that goes by whether.
 fn not_given(set: &mut PacketSet, given: &PacketSet)
     ensures { packets set.new ≡ keep (lacks (packets given.now)) (packets set.old) }
 {

@@ -17,7 +17,8 @@ pub struct End {
     pub ready: usize,
 }
 
-// Finished where nothing is ready, with the set of the only position, number 0, written out.
+// Finished where nothing is ready, with the set of the only position, number 0, written out. Packet and schedule are named by the
+// contract alone.
 pub fn answer(
     book: &MarkedBook,
     packet: &[u16],

@@ -42,7 +42,7 @@ fn set_up(book: &MarkedBook, packet: &[u16], work: &mut Words) -> Tally
     }
 }
 
-// The schedule's bytes in order, each a choice, until nothing is ready.
+// The schedule's bytes in order, each a choice, until nothing is ready. The packet is named by the contract alone.
 fn play(book: &MarkedBook, packet: &[u16], schedule: &[u8], work: &mut Words, first: Tally) -> End
     requires { Playable book.now (start book.now packet.now)
         × Holds book.now work.old first.free first.ready (start book.now packet.now) }

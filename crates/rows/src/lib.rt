@@ -1,5 +1,6 @@
 // Rows of 8 to 16 values in slices of sixteen rows: read, written, compared and changed. The width R is a const parameter, so that a row
-// is an array, which is read where it stands and moves as a whole.
+// is an array, which is read where it stands and moves as a whole. The sixteen rows are a slice: the array of a set by value or a part of
+// the lent area; that they are sixteen of a right width is what `Array` says.
 #![tactic(auto)]
 
 ghost use Rattle.std.specs.Prelude.{◌≡◌, cond, [], ◌++◌, ◌*◌, ◌<◌, ◌≤◌, length, take, drop, get_or};

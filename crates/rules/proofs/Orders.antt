@@ -1,4 +1,4 @@
--- The order of packets is a strict order: field by field, one of Less, Same (only a packet and itself) and More.
+-- The order of packets is a strict order: field by field, one of Less, Equal (only a packet and itself) and Greater.
 use Rattle.std.specs.declared.cmp.Ordering.{Ordering}
 use Rattle.std.specs.declared.cmp.Ordering.TheVariants.{Less, Equal, Greater}
 use Prim.Native.Nat.{ℕ, ◌≤◌, ◌<◌}

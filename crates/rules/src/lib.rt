@@ -6,7 +6,8 @@ ghost use Rattle.std.specs.Prelude.{◌≡◌};
 ghost use Rattle.rules.specs.Codes.{shape_at};
 ghost use Rattle.rules.specs.Checks.{no_place, number_of};
 
-// The nine codes.
+// The nine codes. Bytes, and no enum: document 01's form is a match over codes 0 to 8 with a range of unknown ones, and `shape_of`
+// answers for any byte.
 pub const ID: u8 = 0;
 
 pub const DROP: u8 = 1;
@@ -46,7 +47,8 @@ pub struct Shape {
 }
 
 // The head of a part: its code, its operands by what each code takes them for (field and value of a test or set, the fields that
-// each side of a concurrent part may write, the table that is used), and where the parts below it begin.
+// each side of a concurrent part may write, the table that is used), and where the parts below it begin. One struct, and no enum with each
+// code's operands: each reader takes the fields of its own code.
 #[derive(Clone, Copy, Debug, PartialEq, Eq)]
 pub struct Head {
     pub code: u8,

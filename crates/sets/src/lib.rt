@@ -1,5 +1,7 @@
 // Packet sets (document 01, "Packets and sets"): what is done to the packets of a lent array with room for 16, in place: kept, set, put in,
-// joined, taken away and paired. A row has R places; no function works on the places. A set by value stands in packet_set.
+// joined, taken away and paired. A row has R places; no function works on the places. A set by value stands in packet_set. Here stand a
+// slice and a count, since the array is that of a set by value or a part of the lent area; where packets are too many the answer is None,
+// of which PacketSet makes TooWide.
 #![tactic(auto)]
 
 mod packet_set;

@@ -20,7 +20,7 @@ pub type Row = [u16; PLACES];
 
 pub type Values = [u16; WORDS];
 
-// Packet i has the values 8 i to 8 i + 7, and all after the last packet are 0. Bit f of the mask: the packets have field f.
+// Document 01's form: a flat array, a count and a mask. Packet i has the values 8 i to 8 i + 7, and all after the last packet are 0. Bit f of the mask: the packets have field f.
 #[derive(Clone, Copy)]
 pub struct PacketSet {
     pub values: Values,

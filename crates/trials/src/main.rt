@@ -15,7 +15,7 @@ use tallies::{Question, tally_of};
 use vectors::{Call, from, front, long_at};
 
 // The longest file that is read.
-const MOST_BYTES: usize = 524288;
+const MOST_FILE: usize = 524288;
 
 // CASES NAME, DIFFERING differ; and where some do, the first of them, counted from 0.
 fn print_differing(to: &impl Print, set: &[u8], name: &str) -> io::Result<()> {
@@ -55,7 +55,7 @@ fn report(to: &impl Print, file: &[u8]) -> io::Result<()> {
 }
 
 fn main(rt: HostRuntime) -> io::Result<()> {
-    let mut file = ArrayVec::<u8, MOST_BYTES>::new();
-    io::copy(&mut rt.reader().take(MOST_BYTES as u64), &mut file)?;
+    let mut file = ArrayVec::<u8, MOST_FILE>::new();
+    io::copy(&mut rt.reader().take(MOST_FILE as u64), &mut file)?;
     report(&rt, file.as_slice())
 }

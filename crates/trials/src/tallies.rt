@@ -43,6 +43,7 @@ fn ask(question: Question, v: &[u8]) -> bool
 {
     match question {
         Question::Differs => !agrees(v),
+        // A refusal by 0, which is no number, counts as an answer.
         Question::Answered(call) => refused_by(v, call).unwrap_or(0) == 0,
         Question::Refused(call, number) => refused_by(v, call) == Some(number),
     }

@@ -31,7 +31,8 @@ struct State {
     writes: u8,
 }
 
-// How a part stands: whether in a table's body, whether only a predicate may stand there, and how many concurrent parts are above it.
+// How a part stands: whether in a table's body, whether only a predicate may stand there, each asked for by itself, and how many
+// concurrent parts are above it.
 #[derive(Clone, Copy)]
 struct Way {
     in_table: bool,
@@ -39,7 +40,7 @@ struct Way {
     level: u16,
 }
 
-// How often a table is used, and the deepest concurrent nesting at a use of it.
+// How often a table is used, and the deepest concurrent nesting at a use of it. A table that is not used has 0 for both.
 #[derive(Clone, Copy)]
 struct Use {
     count: u16,
@@ -221,6 +222,7 @@ fn leaf(s: &[u8], notes: &mut Notes, st: State, way: Way) -> Result<State, usize
     }
 }
 
+// What cannot stand is told by its place alone, and goes up through the parts by `let .. else`: document 01's form.
 // ---- a part and all below it. The bytes and the notes are lent whole, and state, depth and way are others at each call: so they stay
 // apart.
 
