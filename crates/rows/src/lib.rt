@@ -139,7 +139,9 @@ fn put_rows<const R: usize>(v: &[u16], n: usize, k: usize, out: &mut [u16])
 {
     for i in 0..n {
         let at = i * k;
-        out[at..at + k].copy_from_slice(&row::<R>(v, i)[..k]);
+        // By value: two slices of which LLVM cannot see that they are apart would want a memmove from outside.
+        let p: [u16; R] = *row(v, i);
+        out[at..at + k].copy_from_slice(&p[..k]);
     }
 }
 
