@@ -2,5 +2,6 @@
 pub mod Rows
 pub mod Merging
 pub mod Inserting
+pub mod Sifting
 pub mod Pairing
 pub mod Whole

@@ -2,7 +2,7 @@
 use Rattle.std.specs.Prelude.{ℕ, ◌+◌, ◌-◌, ◌≤◌, ◌<◌, ◌≡◌, List, [], ◌∷◌, ◌++◌, map, length, take, drop, replicate, Option, Some, None}
 use Rattle.std.proofs.Math.Seq.{slice}
 use Rattle.std.specs.declared.cmp.Ordering.{Ordering}
-use Rattle.std.specs.declared.cmp.Ordering.TheVariants.{Greater}
+use Rattle.std.specs.declared.cmp.Ordering.TheVariants.{Less, Greater}
 use Rattle.rules.specs.Packets.{Packet, Packets, most_packets, order_of, Ascending, insert, union}
 use Rattle.rows.specs.Chunks.{rows_of, blank, Array, Held}
 
@@ -68,3 +68,8 @@ pub record Apart (r : ℕ) (v : List ℕ) (h e m : ℕ) : Type 0 where
 abbrev pub from_first : Packets → Packet → Ordering
 from_first [] y = Greater
 from_first (x ∷ s) y = order_of x y
+
+-- how a packet lies to the first of some; before it, where there is none
+abbrev pub to_first : Packet → Packets → Ordering
+to_first x [] = Less
+to_first x (y ∷ s) = order_of x y

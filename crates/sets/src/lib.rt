@@ -10,7 +10,7 @@ ghost use Rattle.std.specs.Prelude.{◌≡◌, true, [], map, ◌+◌, ◌<◌, 
 ghost use Rattle.std.proofs.Math.Seq.{slice};
 ghost use Rattle.rules.specs.Packets.{most_packets, Ascending, passes, put, keep, gathered, union, lacks, mix, pairs};
 ghost use Rattle.rows.specs.Chunks.{rows_of, Array, Packed, Held, Fits};
-ghost use Rattle.sets.specs.Lists.{Placed, Inserted, Joined, Changed, Zeroed, Raised, Lowered, Apart, from_first};
+ghost use Rattle.sets.specs.Lists.{Placed, Inserted, Joined, Changed, Zeroed, Raised, Lowered, Apart, to_first, from_first};
 
 pub use packet_set::{PacketSet, Row, TooWide};
 use rows::MOST;
@@ -207,16 +207,40 @@ pub fn set_in<const R: usize>(v: &mut [u16], n: usize, f: usize, x: u16) -> usiz
     gather_in::<R>(v, n)
 }
 
+// How row i of a lies to row j of b, which has m packets; before it, where b has no more.
+fn weigh_out<const R: usize>(a: &[u16], i: usize, b: &[u16], j: usize, m: usize) -> Ordering
+    requires { (i < most_packets) × (j ≤ m) × (m ≤ most_packets) × Array R a.now × Array R b.now }
+    ensures { result ≡ to_first (get_or (rows_of R a.now) i []) (slice j m (rows_of R b.now)) }
+{
+    if j < m {
+        rows::order_row::<R>(rows::row(a, i), b, j)
+    } else {
+        Ordering::Less
+    }
+}
+
 // The packets of v that are not in b, moved to the front; gives how many they are.
 pub fn difference_in<const R: usize>(v: &mut [u16], n: usize, b: &[u16], m: usize) -> usize
     requires { Packed R v.old n × Packed R b.now m }
     ensures { Held R v.new result (keep (lacks (take m (rows_of R b.now))) (take n (rows_of R v.old))) }
 {
+    let mut i = 0;
+    let mut j = 0;
     let mut k = 0;
-    for i in 0..n {
-        if !rows::has_row::<R>(b, m, rows::row(v, i)) {
-            rows::move_row::<R>(v, k, i);
-            k += 1;
+    // Both lists once, since both ascend: a turn goes on in one or in both, as no iterator of the library does.
+    while i < n {
+        let o = weigh_out::<R>(v, i, b, j, m);
+        match o {
+            Ordering::Less => {
+                rows::move_row::<R>(v, k, i);
+                i += 1;
+                k += 1;
+            }
+            Ordering::Equal => {
+                i += 1;
+                j += 1;
+            }
+            Ordering::Greater => j += 1,
         }
     }
     rows::clear_rows::<R>(v, k, n);
