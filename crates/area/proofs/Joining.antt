@@ -1,20 +1,21 @@
 -- Two sets in slots made one: copied out row by row, merged into a third slot, paired.
 use Rattle.std.specs.declared.cmp.Ordering.TheVariants.{Less, Equal, Greater}
-use Prim.Native.Nat.{ℕ, ◌+◌, ◌-◌, ◌≤◌, ◌<◌}
+use Prim.Native.Nat.{ℕ, ◌+◌, ◌≤◌, ◌<◌}
 use native.Mathlib.Omega.{arith}
 use native.Mathlib.Numerals.{add-one}
 use mathlib.Core.Path.{◌≡◌, refl, sym, ap, ◌∙◌}
 use mathlib.Core.Logic.{inl, inr, ⊎_elim}
 use mathlib.Core.List.{List, [], ◌∷◌, ◌++◌, append-nil, append_assoc}
 use lib.ListN.{length, take, drop, replicate, length-append, drop_of_length-le}
-use lib.Seq.{drop-cons, take_at, drop_at, length-take-le}
+use lib.Seq.{drop-cons}
 use Rattle.rules.specs.Packets.{Packet, Packets, order_of, Ascending, insert, union, mix, pairs_into, pairs, most_packets}
 use Rattle.std.specs.Prelude.{Option, Some, IsSome}
-use Rattle.rows.specs.Chunks.{chunks, rows_of, blank, Held, Fits, Copied}
-use Rattle.rows.proofs.Holding.{fits_some}
-use Rattle.rows.proofs.Chunks.{length_chunks, length_rows_lem, drop_replicate}
+use Rattle.rows.specs.Chunks.{chunks, rows_of, Held, Fits, Copied}
+use Rattle.rows.proofs.Holding.{fits_some, copied_held, held_as}
+use Rattle.rows.proofs.Chunks.{length_chunks}
 use Rattle.sets.proofs.Rows.{ascending_drop}
 use Rattle.sets.proofs.Merging.{union_less, union_same, union_more}
+use Rattle.sets.proofs.Whole.{none_held}
 use Rattle.area.specs.declared.joins.Next.{Next}
 use Rattle.std.specs.declared.ops.Range.{Range}
 use Rattle.area.specs.Words.{positions, row_words, slot_words, slot_from, slot_range, slot_at, rows_at, packet_at, OutsideSlot, Rowed}
@@ -26,32 +27,13 @@ use Rattle.area.proofs.Lending.{lent, lent_slot, front_rows, filled, Back, packe
 
 -- ---- a set copied out
 
-zero_rows : rows_of row_words (replicate slot_words 0) ≡ replicate 16 (blank row_words)
-unfolding chunks
-zero_rows = refl
-
 -- the first n rows of slot i in an array of zeros
 pub copied_out : {w u : List ℕ} {i n : ℕ} {at : Range ℕ} → at ≡ slot_range i → HasSet w i n → Copied row_words u (replicate slot_words 0) (lent w at) n
     → Held row_words u n (rows_at w i n)
-copied_out {w} {u} {i} {n} s h c =
-    let R : Packets = rows_of row_words (slot_at w i) in
-    let Z : Packets = replicate (16 - n) (blank row_words) in
-    let e : 16 ≡ n + (16 - n) = omega (arith, h.slim) in
-    let z : drop n (rows_of row_words (replicate slot_words 0)) ≡ Z =
-    ap (drop n) zero_rows ∙ ap (λ (k : ℕ). drop n (replicate k (blank row_words))) e ∙ drop_replicate n (16 - n) (blank row_words) in
-    let lt : length (take n R) ≡ n = length-take-le n R (omega (arith, length_rows_lem row_words (slot_at w i), h.slim)) in
-    let rows : rows_of row_words u ≡ take n R ++ Z = c.rows ∙ rw (lent_slot i s w, z) refl in
-    let same : take n (rows_of row_words u) ≡ rows_at w i n =
-    ap (take n) rows ∙ take_at (take n R) Z n lt ∙ front_rows (slot_at w i) n h.slim in
-    record {
-      packed = record {
-        array = c.array;
-        room = h.slim;
-        zeros = ap (drop n) rows ∙ drop_at (take n R) Z n lt;
-        order = rw same h.rises;
-      };
-      same = same;
-    }
+copied_out {w} {u} {i} {n} {at} s h c =
+    let e : take n (rows_of row_words (lent w at)) ≡ rows_at w i n =
+    ap (λ (v : List ℕ). take n (rows_of row_words v)) (lent_slot i s w) ∙ front_rows (slot_at w i) n h.slim in
+    held_as (copied_held none_held h.slim (rw e h.rises) c) e
 
 pub no_packets : (w : List ℕ) (i : ℕ) → i < positions → HasSet w i 0
 unfolding chunks

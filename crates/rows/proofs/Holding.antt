@@ -92,6 +92,7 @@ copied_next {r} {w'} {w} {w₀} {v} i h c s =
           ∙ set_at (take i rows-v) (get_or rows-w i []) (drop (suc i) rows-w) (get_or rows-v i []) i n ∙ sym t;
     }
 
-pub copied_held : {r : ℕ} {w w₀ v : List ℕ} {n : ℕ} → Held r w₀ 0 [] → Packed r v n → Copied r w w₀ v n → Held r w n (take n (rows_of r v))
-copied_held {r} {v = v} {n} k q c =
-    fronted n _ c.array k q.room (length_packets r v n q.room) c.rows q.order
+pub copied_held : {r : ℕ} {w w₀ v : List ℕ} {n : ℕ} → Held r w₀ 0 [] → n ≤ 16 → Ascending (take n (rows_of r v)) → Copied r w w₀ v n
+    → Held r w n (take n (rows_of r v))
+copied_held {r} {v = v} {n} k h a c =
+    fronted n _ c.array k h (length_packets r v n h) c.rows a
