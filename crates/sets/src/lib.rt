@@ -8,13 +8,32 @@ mod packet_set;
 
 ghost use Rattle.std.specs.Prelude.{◌≡◌, true, [], map, ◌+◌, ◌<◌, ◌≤◌, take, get_or};
 ghost use Rattle.std.proofs.Math.Seq.{slice};
-ghost use Rattle.rules.specs.Packets.{most_packets, Ascending, passes, put, keep, gathered, union, lacks, mix, pairs};
+ghost use Rattle.rules.specs.Masks.{all_fields};
+ghost use Rattle.rules.specs.Packets.{places, most_packets, Ascending, passes, put, keep, gathered, union, lacks, mix, pairs};
 ghost use Rattle.rows.specs.Chunks.{rows_of, Array, Packed, Held, Fits};
 ghost use Rattle.sets.specs.Lists.{Placed, Inserted, Joined, Changed, Zeroed, Raised, Lowered, Apart, to_first, from_first};
 
-pub use packet_set::{PacketSet, Row, TooWide};
+pub use packet_set::{PacketSet, TooWide};
 use rows::MOST;
 use std::cmp::Ordering;
+
+// The places of a row, and the words of sixteen rows.
+pub const PLACES: usize = 8;
+
+const WORDS: usize = MOST * PLACES;
+
+// A packet's row by itself.
+pub type Row = [u16; PLACES];
+
+pub type Values = [u16; WORDS];
+
+// The mask of the fields 0 to k - 1.
+pub fn all_fields(k: usize) -> u8
+    requires { k ≤ places }
+    ensures { result ≡ all_fields k }
+{
+    if k < PLACES { (1u8 << k) - 1 } else { u8::MAX }
+}
 
 // The packets that a test passes, moved to the front; gives how many they are.
 pub fn keep_in<const R: usize>(v: &mut [u16], n: usize, f: usize, x: u16) -> usize

@@ -7,18 +7,8 @@ ghost use Rattle.rules.specs.Packets.{places};
 ghost use Rattle.rows.specs.Chunks.{Packed};
 ghost use Rattle.sets.specs.Packing.{Packed-prop};
 
-use rows::MOST;
+use crate::{PLACES, Row, Values, WORDS, all_fields};
 use rules::Reason;
-
-// The places of a row, and the words of sixteen rows.
-pub const PLACES: usize = 8;
-
-const WORDS: usize = MOST * PLACES;
-
-// A packet's row by itself.
-pub type Row = [u16; PLACES];
-
-pub type Values = [u16; WORDS];
 
 // Document 01's form: a flat array, a count and a mask. Packet i has the values 8 i to 8 i + 7, and all after the last packet are 0. Bit f of the mask: the packets have field f.
 #[derive(Clone, Copy)]
@@ -32,14 +22,6 @@ pub struct PacketSet {
 // The packets would be more than 16.
 #[derive(Clone, Copy, Debug, PartialEq, Eq)]
 pub struct TooWide;
-
-// The mask of the fields 0 to k - 1.
-fn all_fields(k: usize) -> u8
-    requires { k ≤ places }
-    ensures { result ≡ all_fields k }
-{
-    if k < PLACES { (1u8 << k) - 1 } else { u8::MAX }
-}
 
 impl PacketSet {
     ghost use Rattle.std.specs.Prelude.{[], ◌∷◌, map, length, get_or, ◌<◌, OnOk, OnErr};
