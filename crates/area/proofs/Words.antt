@@ -148,6 +148,12 @@ module _ {w v : List ℕ} {a b : ℕ} (o : Outside w v a b) where
       ∙ word_out (p + i) (⊎_elim (λ k. inl (omega arith)) (λ k. inr (omega arith)) c)
       ∙ sym (get_or-take n (drop p w) i 0 g ∙ get_or-drop p w i 0))
 
+  pub past_out : (p : ℕ) → b ≤ p → drop p v ≡ drop p w
+  past_out p h =
+      let l = o.long in
+      ext_get_or 0 (drop p v) (drop p w) (simp length-drop (rw l refl))
+      (λ i g. get_or-drop p v i 0 ∙ o.after (p + i) (omega arith) ∙ sym (get_or-drop p w i 0))
+
 -- ---- two numbers apart
 
 pub slots_apart : (i k : ℕ) → (k ≡ i → ⊥) → (slot_from k + slot_words ≤ slot_from i) ⊎ (slot_from i + slot_words ≤ slot_from k)

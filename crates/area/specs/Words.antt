@@ -114,6 +114,9 @@ ready_list w n = part ready_from n w
 abbrev pub free_list : List ℕ → ℕ → List ℕ
 free_list w n = part free_from n w
 
+abbrev pub past_area : List ℕ → List ℕ
+past_area w = drop area_words w
+
 -- ---- what a write leaves
 
 -- v is w but for the words from a to b

@@ -16,7 +16,7 @@ use Rattle.links.proofs.Times.{times_plug, length_plug, live_foot}
 use Rattle.links.proofs.Plugging.{plug_held}
 use Rattle.links.proofs.ReadyOnes.{Found, ready_plug}
 use Rattle.links.proofs.Local.{prime_going, local_step}
-use Rattle.area.specs.Words.{positions, ready_from, area_words, nobody, header_at, part, ready_list, Listed}
+use Rattle.area.specs.Words.{positions, ready_from, nobody, header_at, part, ready_list, Listed}
 use Rattle.area.specs.declared.lists.Ready.{Ready}
 use Rattle.area.specs.Ready.{numbers, news_at, Relisting}
 use Rattle.steps.specs.State.{showing, Holds, Turned}
@@ -49,12 +49,12 @@ prime_ready rests = refl
 prime_ready single = refl
 prime_ready double = refl
 
-module _ (s w : List ℕ) (n r : ℕ) (t : Tree) (H : Holds s w n r t) (room : length w ≡ area_words) where
+module _ (s w : List ℕ) (n r : ℕ) (t : Tree) (H : Holds s w n r t) where
   -- ---- nothing is ready: the state stays
 
   pub stays : (b : ℕ) → r ≡ 0 → move b t ≡ t
   unfolding move
-  stays b z = none (next t) (sym (ready_count t ∙ sym (listed_all H room) ∙ z))
+  stays b z = none (next t) (sym (ready_count t ∙ sym (listed_all H) ∙ z))
     where
       none : (l : List Tree) → 0 ≡ length l → get_or l (b % ready t) t ≡ t
       none [] e = refl
@@ -64,7 +64,7 @@ module _ (s w : List ℕ) (n r : ℕ) (t : Tree) (H : Holds s w n r t) (room : l
 
   module _ (j i : ℕ) (l : j < r) (ei : i ≡ get_or w (ready_from + j) 0) where
     abbrev F : Found H.net j
-    F = found_at H room j l
+    F = found_at H j l
 
     abbrev c : List Frame
     c = F.around
@@ -95,7 +95,7 @@ module _ (s w : List ℕ) (n r : ℕ) (t : Tree) (H : Holds s w n r t) (room : l
     -- the rules' step there
     step_is : move j t ≡ bare (plug c (numbered (move 0 (bare x))))
     step_is =
-        let k = listed_all H room in
+        let k = listed_all H in
         let e : j % readies t ≡ length (lefts c) = mod-eq_of_lt (omega arith) ∙ sym F.first in
         let d : t ≡ bare (plug c x) = sym H.bare ∙ ap bare F.whole in
         move_at j t (omega arith) ∙ ap (step_at t) e ∙ ap (λ (y : Tree). step_at y (length (lefts c))) d
@@ -141,33 +141,33 @@ module _ (s w : List ℕ) (n r : ℕ) (t : Tree) (H : Holds s w n r t) (room : l
       turned = rw (up_is, ← picked_root) at (S x F.own picked_root (rw up_is at_hole.0))
 
       pub relist_there : (up : ℕ) → up ≡ (header_at w i).up → Relisting v r j up offer
-      relist_there up e = rw (e ∙ up_is) (relist_asks H room F (prime_own F.own) turned l)
+      relist_there up e = rw (e ∙ up_is) (relist_asks H F (prime_own F.own) turned l)
 
       module _ (u : List ℕ) (up k : ℕ) (e : up ≡ (header_at w i).up) (L : Listed v u r j (numbers (news_at v up offer)))
           (ek : k ≡ r - 1 + length (numbers (news_at v up offer))) where
         pub moved : (b : ℕ) → j ≡ b % r → Holds s u m k (move b t)
         moved b ej =
-            rw ek (rw (e ∙ up_is) (move_holds H room F (prime_own F.own) turned (rw (e ∙ up_is) at L) b ej (omega arith)))
+            rw ek (rw (e ∙ up_is) (move_holds H F (prime_own F.own) turned (rw (e ∙ up_is) at L) b ej (omega arith)))
 
 -- ---- a choice, whatever state the words hold
 
 pub picks : (b r : ℕ) → (r ≡ 0 → ⊥) → b % r < r
 picks b r goes = mod-lt b (omega (arith, goes))
 
-module _ (s w : List ℕ) (n r b : ℕ) (A : Advancing s w n r) (room : length w ≡ area_words) where
+module _ (s w : List ℕ) (n r b : ℕ) (A : Advancing s w n r) where
   pub idle : r ≡ 0 → Advanced s w w n r n r b
-  idle z = record { moved = λ t H. rw (stays s w n r t H room b z) H }
+  idle z = record { moved = λ t H. rw (stays s w n r t H b z) H }
 
   module _ (i : ℕ) (goes : r ≡ 0 → ⊥) (ei : i ≡ get_or w (ready_from + b % r) 0) where
     pub can_choose : Stepping s w n i
-    can_choose = can_pick s w n r A.tree A.holds room (b % r) i (picks b r goes) ei A.playable
+    can_choose = can_pick s w n r A.tree A.holds (b % r) i (picks b r goes) ei A.playable
 
     module _ (v : List ℕ) (m : ℕ) (offer : Ready) (up : ℕ) (S : Stepped s w v n m i offer) (eu : up ≡ (header_at w i).up) where
       pub can_relist : Relisting v r (b % r) up offer
-      can_relist = relist_there s w n r A.tree A.holds room (b % r) i (picks b r goes) ei v m offer S up eu
+      can_relist = relist_there s w n r A.tree A.holds (b % r) i (picks b r goes) ei v m offer S up eu
 
       pub advanced : (u : List ℕ) (k : ℕ) → Listed v u r (b % r) (numbers (news_at v up offer))
           → k ≡ r - 1 + length (numbers (news_at v up offer)) → Advanced s w u n r m k b
       advanced u k L ek = record {
-        moved = λ t H. moved s w n r t H room (b % r) i (picks b r goes) ei v m offer S u up k eu L ek b refl;
+        moved = λ t H. moved s w n r t H (b % r) i (picks b r goes) ei v m offer S u up k eu L ek b refl;
       }

@@ -42,8 +42,7 @@ values_few k [] = omega arith
 values_few k (x ∷ F) =
     omega (arith, length-append (take k x) (values_of k F), length-take k x, values_few k F, suc-mul (length F) k)
 
-module _ (s v : List ℕ) (n r k : ℕ) (t : Tree) (bs : List ℕ) (p : Played s v n r k t bs) (pl : Playable s t)
-    (room : length v ≡ area_words) where
+module _ (s v : List ℕ) (n r k : ℕ) (t : Tree) (bs : List ℕ) (p : Played s v n r k t bs) (pl : Playable s t) where
   abbrev T : Tree
   T = run t bs
 
@@ -53,14 +52,14 @@ module _ (s v : List ℕ) (n r k : ℕ) (t : Tree) (bs : List ℕ) (p : Played s
   -- a step is ready: running
   pub running_answer : (r ≡ 0 → ⊥) → Running (record { steps = k; live = positions - n; ready = r }) ≡ stopped (made t bs) T (finish T)
   running_answer some =
-      let u = unfinished T (goes_is (view T) (omega (arith, ready_is H room, some))) in
+      let u = unfinished T (goes_is (view T) (omega (arith, ready_is H, some))) in
       let l : positions - n ≡ live_in T = omega (arith, H.size, live_foot H.net, ap live_in H.bare) in
-      rw (u.0, p.steps, ready_is H room) (ap (λ (x : ℕ). Running (record { steps = made t bs; live = x; ready = ready T })) l)
+      rw (u.0, p.steps, ready_is H) (ap (λ (x : ℕ). Running (record { steps = made t bs; live = x; ready = ready T })) l)
 
   -- nothing is ready: finished, with the set of the only position
   module _ (z : r ≡ 0) where
     is_done : T ≡ done (final T)
-    is_done = finished T (over_is (view T) (sym (ready_is H room) ∙ z))
+    is_done = finished T (over_is (view T) (sym (ready_is H) ∙ z))
 
     set_there : set_at v 0 ≡ final T
     set_there = rw H.root at (done_set s v nobody H.net (final T) (H.bare ∙ is_done) H.held)

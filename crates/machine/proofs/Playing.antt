@@ -10,7 +10,6 @@ use Rattle.rules.specs.States.{Tree, done, next, ready, move, run}
 use Rattle.rules.proofs.Measures.{rest}
 use Rattle.rules.proofs.Schedules.{View, over, going, view, finished, ran}
 use Rattle.rules.proofs.Choose.{ready_count}
-use Rattle.area.specs.Words.{area_words}
 use Rattle.steps.specs.State.{Holds}
 use Rattle.steps.proofs.Refining.{listed_all}
 use Rattle.machine.specs.Runs.{Playable, Advancing, Advanced, Played}
@@ -22,8 +21,8 @@ run_more [] cs t = refl
 run_more (b ∷ bs) cs t = run_more bs cs (move b t)
 
 -- as many are listed as are ready
-pub ready_is : {s w : List ℕ} {n r : ℕ} {t : Tree} → Holds s w n r t → length w ≡ area_words → r ≡ ready t
-ready_is {t = t} h room = listed_all h room ∙ sym (ready_count t)
+pub ready_is : {s w : List ℕ} {n r : ℕ} {t : Tree} → Holds s w n r t → r ≡ ready t
+ready_is {t = t} h = listed_all h ∙ sym (ready_count t)
 
 -- nothing is ready: finished
 pub over_is : {t : Tree} → View t → ready t ≡ 0 → rest t ≡ 0
@@ -40,13 +39,12 @@ goes_is (going t h k n) g = h
 -- after k bytes, each of which was a step
 pub record Playing (s v : List ℕ) (n r k : ℕ) (t : Tree) (bs : List ℕ) : Type 0 where
   pub holds : Holds s v n r (run t (take k bs))
-  pub long : length v ≡ area_words
   pub read : k ≤ length bs
   pub steps : k ≤ rest t
 
-pub play_starts : {s w : List ℕ} {n r : ℕ} {t : Tree} (bs : List ℕ) → Holds s w n r t → length w ≡ area_words → Playing s w n r 0 t bs
+pub play_starts : {s w : List ℕ} {n r : ℕ} {t : Tree} (bs : List ℕ) → Holds s w n r t → Playing s w n r 0 t bs
 unfolding run
-play_starts bs h room = record { holds = h; long = room; read = omega arith; steps = omega arith }
+play_starts bs h = record { holds = h; read = omega arith; steps = omega arith }
 
 module _ (s v : List ℕ) (n r k : ℕ) (t : Tree) (bs : List ℕ) (p : Playing s v n r k t bs) where
   abbrev after : Tree
@@ -64,16 +62,15 @@ module _ (s v : List ℕ) (n r k : ℕ) (t : Tree) (bs : List ℕ) (p : Playing 
 
   -- one byte more is one step more
   pub play_turns : (u : List ℕ) (m q b : ℕ) → k < length bs → b ≡ get_or bs k 0 → (r ≡ 0 → ⊥) → Advanced s v u n r m q b
-      → length u ≡ area_words → Playing s u m q (k + 1) t bs
+      → Playing s u m q (k + 1) t bs
   unfolding run
-  play_turns u m q b there eb goes a room =
+  play_turns u m q b there eb goes a =
       let more : take (k + 1) bs ≡ take k bs ++ b ∷ [] =
       ap (λ (x : ℕ). take x bs) (add-one k) ∙ take-suc bs k 0 there ∙ ap (λ (x : ℕ). take k bs ++ x ∷ []) (sym eb) in
       let e : run t (take (k + 1) bs) ≡ move b after = ap (run t) more ∙ run_more (take k bs) (b ∷ []) t in
-      let g : 0 < rest after = goes_is (view after) (omega (arith, ready_is p.holds p.long, goes)) in
+      let g : 0 < rest after = goes_is (view after) (omega (arith, ready_is p.holds, goes)) in
       record {
         holds = rw e (a.moved after p.holds);
-        long = room;
         read = omega arith;
         steps = omega (arith, after_rest);
       }
@@ -87,7 +84,7 @@ module _ (s v : List ℕ) (n r k : ℕ) (t : Tree) (bs : List ℕ) (p : Playing 
   -- nothing is ready: the bytes left are not read
   pub play_over : r ≡ 0 → Played s v n r k t bs
   play_over e =
-      let d : rest after ≡ 0 = over_is (view after) (sym (ready_is p.holds p.long) ∙ e) in
+      let d : rest after ≡ 0 = over_is (view after) (sym (ready_is p.holds) ∙ e) in
       let z = (ran bs t).steps in
       let q : rest (run t bs) ≡ 0 = omega (arith, (ran bs t).left, after_rest, p.read, p.steps) in
       let same : run t (take k bs) ≡ run t bs =

@@ -19,7 +19,7 @@ use Rattle.links.proofs.Times.{same_self, same_other, times_append}
 use Rattle.links.proofs.Plugging.{held_kept}
 use Rattle.links.proofs.ReadyOnes.{ready_after, ready_few}
 use Rattle.std.specs.Prelude.{Option}
-use Rattle.area.specs.Words.{positions, ready_from, free_from, nobody, part, rows_at, free_list, Given, Rowed, Listed}
+use Rattle.area.specs.Words.{positions, ready_from, free_from, area_words, nobody, part, rows_at, free_list, Given, Rowed, Listed}
 use Rattle.area.specs.Ready.{ready_of as option_ready, numbers, news_at, Relisting}
 use Rattle.steps.specs.State.{below, Holds, Makes, Laying, Laid}
 use Rattle.area.proofs.Words.{part_out}
@@ -130,9 +130,9 @@ module _ (s packet v₁ v₂ : List ℕ) (st : Runnable s (body_start s 0)) (pl 
     }
 
     pub started : (u : List ℕ) (k : ℕ) → Listed v₃ u 1 0 (numbers (news_at v₃ nobody (option_ready r)))
-        → k ≡ 1 - 1 + length (numbers (news_at v₃ nobody (option_ready r))) → Holds s u m k (start s packet)
+        → k ≡ 1 - 1 + length (numbers (news_at v₃ nobody (option_ready r))) → length u ≡ area_words → Holds s u m k (start s packet)
     unfolding part start times
-    started u k N ek =
+    started u k N ek long =
         let d : drop 1 (take 1 (drop ready_from v₃)) ≡ [] =
         drop_of_length-le (take 1 (drop ready_from v₃)) {i = 1} (omega (arith, length-take 1 (drop ready_from v₃))) in
         record {
@@ -145,4 +145,5 @@ module _ (s packet v₁ v₂ : List ℕ) (st : Runnable s (body_start s 0)) (pl 
           size = omega (arith, M.size);
           ready = rw ek (N.here ∙ rw d (append-nil (numbers (news_at v₃ nobody (option_ready r))) ∙ news_are));
           few = omega (arith, few);
+          area = omega (arith, long);
         }

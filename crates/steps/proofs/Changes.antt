@@ -9,9 +9,9 @@ use borrow.Author.Tests.{lt-ltb, le-ltb}
 use Rattle.rules.specs.Packets.{Packets}
 use Rattle.links.specs.Nets.{same, times}
 use Rattle.links.proofs.Times.{same_self, times_append}
-use Rattle.area.proofs.Words.{slots_apart, heads_apart, head_out, part_out}
+use Rattle.area.proofs.Words.{slots_apart, heads_apart, head_out, part_out, past_out}
 use Rattle.area.specs.declared.headers.Header.{Header}
-use Rattle.area.specs.Words.{positions, slot_words, ready_from, free_from, slot_from, header_at, slot_at, ready_list, free_list, Headed}
+use Rattle.area.specs.Words.{positions, slot_words, ready_from, free_from, slot_from, area_words, header_at, slot_at, ready_list, free_list, Headed}
 use Rattle.area.specs.Words.{Slotted, Given}
 use Rattle.steps.specs.State.{below, Spares, Becomes}
 
@@ -49,6 +49,8 @@ module _ {w v : List ℕ} {i : ℕ} {h : Header} (l : i < positions) (o : Headed
   headed_spares = record {
     heads = λ k h z. headed_heads k (apart k i z);
     slots = λ k h z. headed_slots k;
+    past = past_out o.out area_words (omega arith);
+    long = o.out.long;
   }
 
   pub headed_free : (n : ℕ) → free_list v n ≡ free_list w n
@@ -68,6 +70,8 @@ module _ {w v : List ℕ} {i : ℕ} {x : Packets} (l : i < positions) (o : Slott
   slotted_spares = record {
     heads = λ k h z. slotted_heads k h;
     slots = λ k h z. slotted_slots k (apart k i z);
+    past = past_out o.out area_words (omega arith);
+    long = o.out.long;
   }
 
   pub slotted_free : (n : ℕ) → n ≤ positions → free_list v n ≡ free_list w n
@@ -81,6 +85,8 @@ module _ {w v : List ℕ} {n p : ℕ} (l : n < positions) (o : Given w v n p) wh
   given_spares = record {
     heads = λ k h z. head_out o.out k (inl (omega arith));
     slots = λ k h z. part_out o.out (slot_from k) slot_words (inr (omega arith));
+    past = past_out o.out area_words (omega arith);
+    long = o.out.long;
   }
 
   pub given_ready : ready_list v positions ≡ ready_list w positions
@@ -93,6 +99,8 @@ pub spares_then : {w v u : List ℕ} {a b : List ℕ} (c : List ℕ) → ((k : �
 spares_then c f p q = record {
   heads = λ k h z. q.heads k h (f k z).1 ∙ p.heads k h (f k z).0;
   slots = λ k h z. q.slots k h (f k z).1 ∙ p.slots k h (f k z).0;
+  past = q.past ∙ p.past;
+  long = q.long ∙ p.long;
 }
 
 -- a set put into a slot, and then its header
@@ -109,6 +117,8 @@ pub spares_wider : {w v : List ℕ} {a : List ℕ} (c : List ℕ) → ((k : ℕ)
 spares_wider c f p = record {
   heads = λ k h z. p.heads k h (f k z);
   slots = λ k h z. p.slots k h (f k z);
+  past = p.past;
+  long = p.long;
 }
 
 pub in_none : (k : ℕ) (a b : List ℕ) → times k (a ++ b) ≡ 0 → (times k a ≡ 0) × (times k b ≡ 0)

@@ -17,16 +17,16 @@ use Rattle.steps.proofs.Making.{kept_by}
 use Rattle.steps.proofs.Rising.{local_holds, new_few}
 use Rattle.steps.proofs.News.{news_is, offer_small, up_small, two_below}
 use Rattle.area.specs.declared.lists.Ready.{Ready}
-use Rattle.area.specs.Words.{positions, ready_from, area_words, nobody, part, free_list, Listed}
+use Rattle.area.specs.Words.{positions, ready_from, nobody, part, free_list, Listed}
 use Rattle.area.specs.Ready.{numbers, news_at, Relisting}
 use Rattle.steps.specs.State.{showing, Once, Holds, Turned}
 
-module _ {s w : List ℕ} {n r : ℕ} {t : Tree} (H : Holds s w n r t) (room : length w ≡ area_words) where
+module _ {s w : List ℕ} {n r : ℕ} {t : Tree} (H : Holds s w n r t) where
   -- as many are listed as the rules say, and the j-th is a position whose own step is the next
   pub listed_all : r ≡ readies t
   unfolding part
   listed_all =
-      sym (length-take-le r (drop ready_from w) (omega (arith, H.few, room, length-drop ready_from w)))
+      sym (length-take-le r (drop ready_from w) (omega (arith, H.few, H.area, length-drop ready_from w)))
       ∙ ap length H.ready ∙ ready_length H.net ∙ ap readies H.bare
 
   pub found_at : (j : ℕ) → j < r → Found H.net j
@@ -71,7 +71,7 @@ module _ {s w : List ℕ} {n r : ℕ} {t : Tree} (H : Holds s w n r t) (room : l
       there = h;
       few = H.few;
       room = rw same_news
-          (new_few c x t' own whole once (rw F.whole at H.size) (rw F.whole at H.ready) H.few room
+          (new_few c x t' own whole once (rw F.whole at H.size) (rw F.whole at H.ready) H.few H.area
           (rw F.whole at H.root) F.first T.makes);
       above = record {
         small = up_small c (λ k g. (outer k g).1);
@@ -86,7 +86,7 @@ module _ {s w : List ℕ} {n r : ℕ} {t : Tree} (H : Holds s w n r t) (room : l
       step_holds =
           let e : bare (plug c x) ≡ t = ap bare (sym F.whole) ∙ H.bare in
           let l : Listed v u r j (news c T.makes.net) = rw same_news at L in
-          let k = local_holds c x t' own whole once (rw F.whole at H.size) (rw F.whole at H.ready) H.few room
+          let k = local_holds c x t' own whole once (rw F.whole at H.size) (rw F.whole at H.ready) H.few H.area
           (rw F.whole at H.root) F.first T.makes l in
           rw same_news (subst (λ (z : Tree). Holds s u m (r - 1 + length (news c T.makes.net)) (step_at z j)) e k)
 

@@ -14,7 +14,7 @@ use Rattle.links.proofs.Times.{times_append, times_plug, length_plug}
 use Rattle.links.proofs.Plugging.{Kept, root_plug, held_kept, replaced}
 use Rattle.links.proofs.ReadyOnes.{ready_plug, ready_after, ready_few}
 use Rattle.links.proofs.Local.{Own, own_prime, prime_going, local_step}
-use Rattle.area.proofs.Words.{head_out, part_out}
+use Rattle.area.proofs.Words.{head_out, part_out, past_out}
 use Rattle.steps.proofs.Changes.{below_one, below_small}
 use Rattle.steps.proofs.Making.{still, kept_by}
 use Rattle.area.specs.Words.{positions, slot_words, ready_from, free_from, slot_from, area_words, nobody, part, ready_list, free_list, Listed}
@@ -26,6 +26,8 @@ pub listed_spares : {w v : List ℕ} {r j : ℕ} {new : List ℕ} → Listed w v
 listed_spares o = record {
   heads = λ k h z. head_out o.out k (inl (omega arith));
   slots = λ k h z. part_out o.out (slot_from k) slot_words (inr (omega arith));
+  past = past_out o.out area_words (omega arith);
+  long = o.out.long;
 }
 
 pub listed_free : {w v : List ℕ} {r j : ℕ} {new : List ℕ} → Listed w v r j new → (n : ℕ) → free_list v n ≡ free_list w n
@@ -42,7 +44,7 @@ prime_ready double = refl
 module _ {s w v : List ℕ} {n m r j : ℕ} (c : List Frame) (x : Net) (t : Tree) (own : Own x t)
     (held : AllShow (showing s w) nobody (plug c x)) (once : Once (foot (plug c x)) (free_list w n))
     (size : length (foot (plug c x)) + n ≡ positions)
-    (ready : ready_list w r ≡ ready_of (plug c x)) (few : r ≤ positions) (area : length w ≡ area_words)
+    (ready : ready_list w r ≡ ready_of (plug c x)) (few : r ≤ positions) (area : area_words ≤ length w)
     (top : root (plug c x) ≡ 0) (index : length (lefts c) ≡ j)
     (M : Makes s w v n m (foot x) (up_of nobody c) (root x) t) where
   inside : (k : ℕ) → times k (foot_in c) + (times k (foot x) + times k (free_list w n)) ≤ below k
@@ -113,4 +115,5 @@ module _ {s w v : List ℕ} {n m r j : ℕ} (c : List Frame) (x : Net) (t : Tree
       size = omega (arith, size, M.size, length_plug c x, length_plug c M.net);
       ready = new_list;
       few = new_few;
+      area = omega (arith, area, M.else.long, listed.out.long);
     }

@@ -10,7 +10,7 @@ use Rattle.area.specs.declared.headers.Phase.{Phase}
 use Rattle.area.specs.declared.headers.Phase.TheVariants.{Placed, Finished, Waiting, Negated, Entered, Split, Paired}
 use Rattle.area.specs.declared.lists.Ready.{Ready}
 use Rattle.area.specs.declared.lists.Ready.TheVariants.{Nobody, One, Pair}
-use Rattle.area.specs.Words.{positions, nobody, header_at, slot_at, rows_at, ready_list, free_list}
+use Rattle.area.specs.Words.{positions, area_words, nobody, header_at, slot_at, rows_at, ready_list, free_list, past_area}
 
 -- what a header and its packets mean, by the phase
 unfoldable pub shown_by : List ℕ → Phase → Header → Packets → Node
@@ -40,10 +40,12 @@ below k = cond (ltb k positions) 1 0
 abbrev pub Once : List ℕ → List ℕ → Type 0
 Once a f = (k : ℕ) → times k a + times k f ≤ below k
 
--- no position is changed but those of a
+-- no position is changed but those of a, and nothing past the area
 pub record Spares (w v a : List ℕ) : Type 0 where
   pub heads : (k : ℕ) → k < positions → times k a ≡ 0 → header_at v k ≡ header_at w k
   pub slots : (k : ℕ) → k < positions → times k a ≡ 0 → slot_at v k ≡ slot_at w k
+  pub past : past_area v ≡ past_area w
+  pub long : length v ≡ length w
 
 -- the positions a, with free ones, have become a net of the state t, at number i below `up`; n free numbers were there, m are left
 pub record Makes (s w v : List ℕ) (n m : ℕ) (a : List ℕ) (up i : ℕ) (t : Tree) : Type 0 where
@@ -74,6 +76,7 @@ pub record Holds (s w : List ℕ) (n r : ℕ) (t : Tree) : Type 0 where
   pub size : length (foot net) + n ≡ positions
   pub ready : ready_list w r ≡ ready_of net
   pub few : r ≤ positions
+  pub area : area_words ≤ length w
 
 -- what a net offers: its one ready position, or none where it is finished
 pub data Offers (x : Net) (r : Option ℕ) : Type 0 where

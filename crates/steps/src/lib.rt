@@ -9,4 +9,4 @@ mod marks;
 pub use enters::{Turn, ended, enter_leaf, enter_not, enter_sum, enter_table, two_ready};
 pub use lays::{lay, lay_leaf};
 pub use leaves::{leave_both, leave_not, take_next};
-pub use marks::MarkedBook;
+pub use marks::{MarkedBook, end_at, mark};

@@ -55,7 +55,7 @@ impl<'a> MarkedBook<'a> {
         requires { Runnable self.now at }
         ensures { result ≡ after self.now most_depth at }
     {
-        marked_at(self.ends, at)
+        end_at(self.ends, at)
     }
 
     // Where the body of entry x starts.
@@ -68,7 +68,7 @@ impl<'a> MarkedBook<'a> {
 }
 
 // The table of a book, from its last place on.
-fn mark(bytes: &[u8], ends: &mut [u16])
+pub fn mark(bytes: &[u8], ends: &mut [u16])
     requires { (length bytes.now ≤ most_bytes) × (length bytes.now ≤ length ends.old) }
     ensures { Marked bytes.now ends.new }
 {
@@ -78,7 +78,7 @@ fn mark(bytes: &[u8], ends: &mut [u16])
 }
 
 // The word of the table at a place; 0 past its end.
-fn marked_at(ends: &[u16], at: usize) -> u16
+pub fn end_at(ends: &[u16], at: usize) -> u16
     ensures { result ≡ get_or ends.now at 0 }
 {
     ends.get(at).copied().unwrap_or(0)
@@ -93,10 +93,10 @@ fn end_by(bytes: &[u8], ends: &[u16], at: usize) -> u16
     let shape = rules::shape_of(p.code);
     match shape.parts {
         0 => p.from as u16,
-        1 => marked_at(ends, p.from),
+        1 => end_at(ends, p.from),
         _ => {
-            let middle = marked_at(ends, p.from);
-            marked_at(ends, middle as usize)
+            let middle = end_at(ends, p.from);
+            end_at(ends, middle as usize)
         }
     }
 }

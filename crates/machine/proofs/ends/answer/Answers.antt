@@ -6,17 +6,17 @@ use Rattle.machine.proofs.ends.answer.Goals as goal
 
 pub emit_packets-requires : goal.emit_packets-requires
 emit_packets-requires c =
-    can_read _ _ _ _ _ _ _ c.requires.ended c.requires.policy.0 c.told-work c.if-c-eq0.true _ (ap (λ (h : Header). h.count) c.head-h.ensures)
+    can_read _ _ _ _ _ _ _ c.requires.ended c.requires.policy.0 c.if-c-eq0.true _ (ap (λ (h : Header). h.count) c.head-h.ensures)
 
 pub returns-then-c-eq0 : goal.returns-then-c-eq0
 returns-then-c-eq0 c =
     let e = ap (λ (h : Header). h.count) c.head-h.ensures in (
-      finished_answer _ _ _ _ _ _ _ c.requires.ended c.requires.policy.0 c.told-work c.if-c-eq0.true _ e,
-      finished_result _ _ _ _ _ _ _ c.requires.ended c.requires.policy.0 c.told-work c.if-c-eq0.true _ e _ _ _ _ _ (rw c.bytes.ensures at c.byte_at-k.ensures)
+      finished_answer _ _ _ _ _ _ _ c.requires.ended c.requires.policy.0 c.if-c-eq0.true _ e,
+      finished_result _ _ _ _ _ _ _ c.requires.ended c.requires.policy.0 c.if-c-eq0.true _ e _ _ _ _ _ (rw c.bytes.ensures at c.byte_at-k.ensures)
           c.requires.policy.1
           c.emit_packets.ensures,
     )
 
 pub returns : goal.returns
 returns c =
-    (running_answer _ _ _ _ _ _ _ c.requires.ended c.requires.policy.0 c.told-work c.if-c-eq0.false, refl)
+    (running_answer _ _ _ _ _ _ _ c.requires.ended c.requires.policy.0 c.if-c-eq0.false, refl)

@@ -18,4 +18,4 @@ returns c =
     started _ _ _ _ c.requires.policy.0 c.requires.policy.1 c.free_all.ensures
     (rw c.padded-p.ensures at c.put_packet.ensures) _ _ _ (λ f. rw c.body_start-at.ensures.start at
     (c.lay-o.ensures f))
-    _ _ (rw c.from.ensures at c.relist-ready.ensures.0) (rw c.from.ensures at c.relist-ready.ensures.1)
+    _ _ (rw c.from.ensures at c.relist-ready.ensures.0) (rw c.from.ensures at c.relist-ready.ensures.1) c.relist-ready.array_long

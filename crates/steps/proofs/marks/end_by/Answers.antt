@@ -14,9 +14,9 @@ returns-in-0 c =
 pub returns-in-1 : goal.returns-in-1
 returns-in-1 c =
     end_one _ _ _ c.requires.0 _ c.head_at-p.ensures _ c.shape_of-shape.ensures _
-    c.marked_at.ensures c.in-1.is
+    c.end_at.ensures c.in-1.is
 
 pub returns-in_default : goal.returns-in_default
 returns-in_default c =
     end_two _ _ _ c.requires.0 _ c.head_at-p.ensures _ c.shape_of-shape.ensures _ _
-    c.marked_at-middle.ensures c.marked_at-in_default.ensures (λ z. omega (arith, z)) (λ z. omega (arith, z))
+    c.end_at-middle.ensures c.end_at-in_default.ensures (λ z. omega (arith, z)) (λ z. omega (arith, z))
