@@ -1,7 +1,7 @@
 -- A finished run: its packets stand in the first words of the result, sixteen at most, and the lines made of those words are theirs.
 -- So what is printed of a run follows from the answer and the result that the machine leaves.
 use Rattle.std.specs.Prelude.{Err, Ok, Result}
-use Prim.Native.Nat.{ℕ, ◌*◌, ◌≤◌, ◌<◌}
+use Prim.Native.Nat.{ℕ, ◌*◌, ◌≤◌}
 use native.Mathlib.Omega.{arith}
 use native.Mathlib.Nat.{le_refl}
 use mathlib.Core.Path.{◌≡◌, refl, sym, ap, ◌∙◌}
@@ -150,9 +150,8 @@ module _ (book packet schedule : List ℕ) (words area : ℕ) (a : Result Ran Re
     ended : ran book packet schedule (length result) area ≡ Ok (Finished f)
     ended = rw size (sym answer ∙ ends)
 
-    pub finished_asks : (0 < k) × (k ≤ 8) × (f.count ≤ 16) × (f.count * k ≤ length after)
+    pub finished_asks : (k ≤ 8) × (f.count ≤ 16) × (f.count * k ≤ length after)
     finished_asks = (
-      rw fields bounds.0,
       rw fields bounds.1,
       finished_few book packet schedule result area f ended,
       rw (fields, left) (finished_words book packet schedule result area f ended bytes),

@@ -1,10 +1,11 @@
 -- The laws of the lines: the parts of one, and those that are still to be added on the way through values or packets.
-use Rattle.std.proofs.Common.{◌≡◌, ℕ, zero, suc, ◌+◌, ◌*◌, ◌≤◌, ◌<◌, List, [], ◌∷◌, ◌++◌, length, take, drop, get_or, refl, sym, ◌∙◌, arith, append_assoc, append-nil, add-one, length-append, drop-cons}
-use lib.ListN.{drop_of_length-le}
-use lib.Seq.{take_at, drop_at, take-take, length-take-le}
-use Rattle.std.proofs.lemmas.List.{drop-take}
+use Rattle.std.proofs.Common.{◌≡◌, ℕ, zero, suc, ◌+◌, ◌-◌, ◌*◌, ◌≤◌, ◌<◌, List, [], ◌∷◌, ◌++◌, length, take, drop, slice_range, get_or, refl, ap, ◌∙◌, arith, append_assoc, add-one, length-append, drop-cons}
+use native.Mathlib.Nat.{mul-le-mul}
+use lib.ListN.{length-take, drop_of_length-le}
+use lib.Seq.{drop-drop}
 use Rattle.printer.specs.Printing.{decimal, blank_then, line_end, further_values, values_line}
 use Rattle.printer.specs.Building.{lines_of}
+use Rattle.printer.proofs.DecimalLaws.{decimal_few}
 
 -- a word and two parts, and what follows
 pub parts : (word a b rest : List ℕ) → (word ++ (a ++ b)) ++ rest ≡ word ++ (a ++ (b ++ rest))
@@ -32,60 +33,55 @@ values_none (x ∷ v) text e = absurd (omega arith)
 
 -- ---- the packets' lines
 
--- the lines of the words of so many packets, whatever follows these words
-pub lines_front : (k n : ℕ) (l : List ℕ) → lines_of k n (take (n * k) l) ≡ lines_of k n l
+-- the next packet's line, and the lines of those after it
+pub lines_next : (k n i : ℕ) (l : List ℕ) → i < n
+    → lines_of k (n - i) (drop (i * k) l) ≡ values_line (slice_range l (i * k) ((i + 1) * k)) ++ lines_of k (n - (i + 1)) (drop ((i + 1) * k) l)
 unfolding lines_of
-lines_front k zero l = refl
-lines_front k (suc n) l =
-    let whole : suc n * k ≡ k + n * k = omega arith in
-    rw (whole, take-take k (k + n * k) l (omega arith), drop-take k (n * k) l, lines_front k n (drop k l))
-
--- so many packets are still to come, the words are theirs, and there is room for their lines
-pub record Packets (k : ℕ) (rest whole text : List ℕ) : Type 0 where
-  pub left : ℕ
-  pub words : length rest ≡ left * k
-  pub room : length text + 169 * left ≤ 4096
-  pub built : text ++ lines_of k left rest ≡ whole
-
-pub packets_all : (k count : ℕ) (words text : List ℕ) → count ≤ 16 → count * k ≤ length words → length text ≤ 51
-    → Packets k (take (count * k) words) (text ++ lines_of k count words) text
-packets_all k count words text few long short = record {
-  left = count;
-  words = length-take-le (count * k) words long;
-  room = omega arith;
-  built = rw (lines_front k count words);
-}
-
--- there is one, so room for its line
-pub packets_room : {k : ℕ} {whole text : List ℕ} (x rest : List ℕ) → k ≤ 8 → 0 < k → length x ≡ k → Packets k (x ++ rest) whole text
-    → length text + (21 * length x + 1) ≤ 4096
-packets_room {k} {whole} {text} x rest eight one e p = by p.left p.words p.room
-  where
-    by : (left : ℕ) → length (x ++ rest) ≡ left * k → length text + 169 * left ≤ 4096 → length text + (21 * length x + 1) ≤ 4096
-    by zero w r = absurd (omega (arith, length-append x rest))
-    by (suc left) w r = omega arith
-
--- its line is added
-pub packets_next : {k : ℕ} {whole text more : List ℕ} (x rest : List ℕ) → k ≤ 8 → 0 < k → length x ≡ k → Packets k (x ++ rest) whole text
-    → more ≡ text ++ values_line x → length more ≤ length text + (21 * length x + 1) → Packets k rest whole more
-unfolding lines_of
-packets_next {k} {whole} {text} {more} x rest eight one e p m short = by p.left p.words p.room p.built
-  where
-    by : (left : ℕ) → length (x ++ rest) ≡ left * k → length text + 169 * left ≤ 4096 → text ++ lines_of k left (x ++ rest) ≡ whole
-        → Packets k rest whole more
-    by zero w r b = absurd (omega (arith, length-append x rest))
-    by (suc left) w r b = record {
-      left = left;
-      words = omega (arith, length-append x rest);
-      room = omega arith;
-      built = rw m (append_assoc text (values_line x) (lines_of k left rest) ∙ rw (take_at x rest k e, drop_at x rest k e) at b);
-    }
+lines_next k n i l h =
+    let one : n - i ≡ suc (n - (i + 1)) = omega arith in
+    let wide : (i + 1) * k - i * k ≡ k = omega arith in
+    let after : i * k + k ≡ (i + 1) * k = omega arith in
+    rw (one, wide, drop-drop k (i * k) l, after)
 
 -- none
-pub packets_none : {k : ℕ} {whole text : List ℕ} (rest : List ℕ) → length rest < k → Packets k rest whole text → text ≡ whole
+pub lines_none : (k n i : ℕ) (l : List ℕ) → n ≤ i → lines_of k (n - i) l ≡ []
 unfolding lines_of
-packets_none {k} {whole} {text} rest h p = by p.left p.words p.built
-  where
-    by : (left : ℕ) → length rest ≡ left * k → text ++ lines_of k left rest ≡ whole → text ≡ whole
-    by zero w b = sym (append-nil text) ∙ b
-    by (suc left) w b = absurd (omega arith)
+lines_none k n i l h =
+    let none : n - i ≡ 0 = omega arith in
+    rw none
+
+-- ---- the lengths
+
+further_few : (v : List ℕ) → length (further_values v) ≤ 21 * length v + 1
+unfolding further_values
+further_few [] = omega arith
+further_few (x ∷ v) = rw length-append (omega (arith, decimal_few x, further_few v))
+
+values_few : (v : List ℕ) → length (values_line v) ≤ 21 * length v + 1
+unfolding values_line
+values_few [] = omega arith
+values_few (x ∷ v) = rw length-append (omega (arith, decimal_few x, further_few v))
+
+lines_few : (k n : ℕ) (l : List ℕ) → length (lines_of k n l) ≤ n * (21 * k + 1)
+unfolding lines_of
+lines_few k zero l = omega arith
+lines_few k (suc n) l =
+    rw length-append (omega (arith, values_few (take k l), length-take k l, lines_few k n (drop k l)))
+
+-- sixteen packets of eight values fit
+pub lines_fit : (k n : ℕ) (l : List ℕ) → k ≤ 8 → n ≤ 16 → length (lines_of k n l) ≤ 2704
+lines_fit k n l few most =
+    let line : 21 * k + 1 ≤ 169 = omega arith in
+    let rows : n * (21 * k + 1) ≤ 16 * 169 = mul-le-mul most line in
+    omega (arith, lines_few k n l)
+
+-- so there is room for the next packet's line
+pub packet_room : (k n i : ℕ) (l first text : List ℕ) → k ≤ 8 → n ≤ 16 → length first ≤ 51
+    → text ++ lines_of k (n - i) (drop (i * k) l) ≡ first ++ lines_of k n l
+    → length text + (21 * length (slice_range l (i * k) ((i + 1) * k)) + 1) ≤ 4096
+packet_room k n i l first text few most short e =
+    let wide : (i + 1) * k - i * k ≡ k = omega arith in
+    let line : length (slice_range l (i * k) ((i + 1) * k)) ≤ k = rw wide (omega (arith, length-take k (drop (i * k) l))) in
+    let all = ap length e in
+    let whole = lines_fit k n l few most in
+    omega (arith, length-append text (lines_of k (n - i) (drop (i * k) l)), length-append first (lines_of k n l))

@@ -1,5 +1,5 @@
 // The line or lines that each answer is printed as.
-ghost use Rattle.std.specs.Prelude.{◌+◌, ◌*◌, ◌≤◌, ◌<◌, ◌≡◌, ◌++◌, length};
+ghost use Rattle.std.specs.Prelude.{◌+◌, ◌*◌, ◌≤◌, ◌≡◌, ◌++◌, length};
 ghost use Rattle.arrayvec.specs.ArrayString.{array_string_len};
 ghost use Rattle.printer.specs.Printing.{blank_then, values_line, refused_line};
 ghost use Rattle.printer.specs.Building.{running_line, finished_lines};
@@ -8,6 +8,7 @@ use crate::text::{MOST_TEXT, Text, push_next, push_number};
 use rules::{Finish, Progress, Refusal};
 
 // Every answer begins with a word and two numbers.
+#[tactic(auto, using(crate::proofs::DecimalLaws::decimal_few))]
 fn opening(word: &str, a: usize, b: usize) -> Text
     requires { length word.now ≤ 8 }
     ensures bytes { result.bytes ≡ word.now ++ (blank_then a ++ blank_then b) }
@@ -31,7 +32,7 @@ pub fn refused(r: Refusal) -> Text
 }
 
 // running STEPS LIVE READY
-#[tactic(auto, using(crate::proofs::LineLaws::parts), unfolding(crate::specs::Building::running_line))]
+#[tactic(auto, using(crate::proofs::LineLaws::parts, crate::proofs::DecimalLaws::decimal_few), unfolding(crate::specs::Building::running_line))]
 pub fn running(p: Progress) -> Text
     ensures { result.bytes ≡ running_line p }
 {
@@ -42,7 +43,7 @@ pub fn running(p: Progress) -> Text
 }
 
 // One packet's values, with single blanks between them.
-#[tactic(auto, using(crate::proofs::LineLaws::further_next, crate::proofs::LineLaws::further_none, crate::proofs::LineLaws::values_first, crate::proofs::LineLaws::values_none))]
+#[tactic(auto, using(crate::proofs::LineLaws::further_next, crate::proofs::LineLaws::further_none, crate::proofs::LineLaws::values_first, crate::proofs::LineLaws::values_none, crate::proofs::DecimalLaws::decimal_few))]
 fn push_values(text: &mut Text, values: &[u16])
     requires { array_string_len text.old + (21 * length values.now + 1) ≤ MOST_TEXT }
     ensures bytes { text.new.bytes ≡ text.old.bytes ++ values_line values.now }
@@ -58,9 +59,7 @@ fn push_values(text: &mut Text, values: &[u16])
 }
 
 // finished STEPS COUNT, and a line for each of the packets, which stand in the words one after the other, k values each
-#[tactic(auto, using(crate::proofs::LineLaws::packets_room, crate::proofs::LineLaws::packets_next))]
 pub fn finished(f: Finish, k: usize, words: &[u16]) -> Text
-    requires one { 0 < k }
     requires eight { k ≤ 8 }
     requires few { f.count ≤ 16 }
     requires room { f.count * k ≤ length words.now }
@@ -68,8 +67,8 @@ pub fn finished(f: Finish, k: usize, words: &[u16]) -> Text
 {
     let mut text = opening("finished", f.steps, f.count);
     text.push('\n');
-    for packet in words[..f.count * k].chunks_exact(k) {
-        push_values(&mut text, packet);
+    for i in 0..f.count {
+        push_values(&mut text, &words[i * k..(i + 1) * k]);
     }
     text
 }

@@ -10,7 +10,7 @@ pub finished-requires : goal.finished-requires
 finished-requires c =
     let asks = finished_asks _ _ _ _ _ _ _ c.requires (search rules) (search rules) c.run_accepted.ensures.is
     _ (c.in-Ok-Finished.is ∙ ap Ok c.in-Ok-Finished.field-0-is) (λ i. omega (arith, c.type_inv.book i)) _ _ refl c.run_accepted.ensures.out in
-    record { one = asks.0; eight = asks.1; few = asks.2; room = asks.3 }
+    record { eight = asks.0; few = asks.1; room = asks.2 }
 
 pub returns-in-Ok-Finished : goal.returns-in-Ok-Finished
 returns-in-Ok-Finished c =
