@@ -4,7 +4,8 @@ pub mod Examples
 -- the text and the lines
 pub mod DecimalLaws
 pub mod LineLaws
--- the order of the answers, the input's parts, and what a run leaves
+-- the order of the answers, the input's parts, what a read adds, and what a run leaves
 pub mod Ways
 pub mod InputLaws
+pub mod Reading
 pub mod Finishing

@@ -4,7 +4,8 @@
 mod lines;
 mod text;
 
-ghost use Rattle.std.specs.Prelude.{◌≤◌, ◌≡◌, IfOk, IfSome, MatchResult, Ok, OnOk, take};
+ghost use Rattle.std.specs.Prelude.{◌≤◌, ◌≡◌, IfOk, IfSome, MatchResult, Ok, OnOk, length, take};
+ghost use Rattle.std.specs.Io.{ReadsAtMost};
 ghost use Rattle.std.specs.Io.KnownBytes.{Appends};
 ghost use Rattle.rules.specs.Reading.{verdict};
 ghost use Rattle.printer.specs.Printing.{words_in, refused_line, printed};
@@ -109,13 +110,32 @@ pub fn print_run(input: &[u8]) -> Text
     }
 }
 
+// Reads until the buffer is full or the input ends; gives how many bytes there are. An error is handed up, a signal's interruption too.
+#[tactic(auto, using(crate::proofs::Reading::read_on))]
+fn read_full<R: Read>(from: &mut R, buf: &mut [u8]) -> io::Result<usize>
+    ensures ok { ReadsAtMost result buf.new }
+    ensures kept { length buf.new ≡ length buf.old }
+    ensures bytes { IfOk result (λ n. IfSome (R.remaining from.old) (λ bytes. take n buf.new ≡ take (length buf.old) bytes)) }
+{
+    let mut done = 0;
+    while done < buf.len() {
+        let n = from.read(&mut buf[done..])?;
+        if n == 0 {
+            break;
+        }
+        done += n;
+    }
+    Ok(done)
+}
+
 // The front of the input.
 fn read_front<R: Read>(from: &mut R) -> io::Result<ArrayVec<u8, MOST_INPUT>>
     ensures { IfOk result (λ input. IfSome (R.remaining from.old)
         (λ bytes. input.items ≡ take MOST_INPUT bytes)) }
 {
-    let mut input = ArrayVec::new();
-    io::copy(&mut from.take(MOST_INPUT as u64), &mut input)?;
+    let mut input = ArrayVec::from([0u8; MOST_INPUT]);
+    let n = read_full(from, input.as_mut_slice())?;
+    input.truncate(n);
     Ok(input)
 }
 
