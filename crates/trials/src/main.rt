@@ -8,6 +8,9 @@ mod tallies;
 mod vector_set;
 mod vectors;
 
+ghost use Rattle.std.specs.Prelude.{◌≡◌, length};
+ghost use Rattle.std.specs.Io.{ReadsAtMost};
+
 use arrayvec::ArrayVec;
 use std::io;
 use std::io::{Print, Read};
@@ -54,8 +57,25 @@ fn report(to: &impl Print, file: &[u8]) -> io::Result<()> {
     print_differing(to, from(sets, right), " cases that state something wrong, ")
 }
 
+// Reads until the buffer is full or the input ends; gives how many bytes there are. An error is handed up, a signal's interruption too.
+fn read_full<R: Read>(from: &mut R, buf: &mut [u8]) -> io::Result<usize>
+    ensures ok { ReadsAtMost result buf.new }
+    ensures kept { length buf.new ≡ length buf.old }
+{
+    let mut done = 0;
+    while done < buf.len() {
+        let n = from.read(&mut buf[done..])?;
+        if n == 0 {
+            break;
+        }
+        done += n;
+    }
+    Ok(done)
+}
+
 fn main(rt: HostRuntime) -> io::Result<()> {
-    let mut file = ArrayVec::<u8, MOST_FILE>::new();
-    io::copy(&mut rt.reader().take(MOST_FILE as u64), &mut file)?;
+    let mut file = ArrayVec::from([0u8; MOST_FILE]);
+    let n = read_full(&mut rt.reader(), file.as_mut_slice())?;
+    file.truncate(n);
     report(&rt, file.as_slice())
 }
