@@ -8,10 +8,14 @@ use native.Mathlib.Decide.{dec_lt}
 use lib.ListN.{length, take, drop, get_or, set, replicate, length-append, length-take, take-append-drop}
 use lib.Seq.{slice, length-slice, drop-cons, take_at, drop_at, drop-drop, take-take, take-suc, take-set-le, get_or-take, get_or-drop}
 use lib.Seq.{set_out}
+use Rattle.std.specs.Bool.{then_some}
+use Rattle.std.specs.declared.cmp.Ordering.{Ordering}
 use Rattle.std.specs.declared.cmp.Ordering.TheVariants.{Less, Equal, Greater}
-use Rattle.rules.specs.Packets.{Packet, Packets, order_of, Before, AllAfter, Ascending, put, insert, union, gathered}
+use mathlib.Core.Bool.{Bool, true, false, false≢true}
+use mathlib.Core.Logic.{inl, inr}
+use Rattle.rules.specs.Packets.{Packet, Packets, order_of, Before, AllAfter, Ascending, ◌∈◌, put_by, put, insert, member, union, gathered}
 use Rattle.rules.proofs.Orders.{order_refl, order_same, order_turned, before_trans, after_trans}
-use Rattle.rules.proofs.Sets.{insert_ascending, length_insert_le, length_insert_more, length_union_le, gathered_same}
+use Rattle.rules.proofs.Sets.{after_out, member_in, member_out, insert_ascending, length_insert_le, length_insert_more, length_union_le, gathered_same}
 use Rattle.rows.specs.Chunks.{rows_of, blank, Array, Packed, Held, Stored, Cleared}
 use Rattle.rows.proofs.Chunks.{length_rows_lem, length_row, drop_replicate}
 use Rattle.rows.proofs.Clearing.{trimmed}
@@ -125,15 +129,32 @@ inserted_there {r} {w₀} p k h a e = record {
   there = λ _. refl;
 }
 
--- one too many
-pub inserted_not : (r : ℕ) (w₀ : List ℕ) (p : Packet) (i k : ℕ) → k ≡ 16
-    → insert p (take k (rows_of r w₀)) ≡ take i (take k (rows_of r w₀)) ++ p ∷ drop i (take k (rows_of r w₀)) → Inserted r w₀ w₀ k p None
-inserted_not r w₀ p i k h e =
-    let s = take k (rows_of r w₀) in
-    let n : length (take i s) + length (drop i s) ≡ length s =
-    sym (length-append (take i s) (drop i s)) ∙ ap length (take-append-drop i s) in
-    let m : length (insert p s) ≡ length (take i s) + suc (length (drop i s)) = ap length e ∙ length-append (take i s) (p ∷ drop i s) in
-    (omega (arith, length_packets r w₀ k (omega arith)), refl)
+-- an ascending list stays as it is, if it has the packet
+insert_member : (p : Packet) (s : Packets) → Ascending s → p ∈ s → insert p s ≡ s
+unfolding insert
+insert_member p [] h m = absurd m
+insert_member p (x ∷ s) h (inl e) = rw (e, order_refl x)
+insert_member p (x ∷ s) h (inr m) =
+    rw (order_turned x p Less (after_out x p s h.0 m)) (ap (λ (r : Packets). x ∷ r) (insert_member p s h.1 m))
+
+-- and has one more, if it has not
+insert_more : (p : Packet) (s : Packets) → (p ∈ s → ⊥) → length (insert p s) ≡ suc (length s)
+unfolding insert
+insert_more p [] n = refl
+insert_more p (x ∷ s) n = go (order_of p x) refl (insert_more p s (λ m. n (inr m)))
+  where
+    go : (o : Ordering) → order_of p x ≡ o → length (insert p s) ≡ suc (length s) → length (put_by o p x s (insert p s)) ≡ suc (suc (length s))
+    go Less e k = refl
+    go Equal e k = absurd (n (inl (order_same p x e)))
+    go Greater e k = ap suc k
+
+-- no room: it is there, or is one too many
+pub inserted_full : {r : ℕ} {w₀ : List ℕ} (p : Packet) (k : ℕ) (b : Bool) → k ≡ 16 → Array r w₀ → Ascending (take k (rows_of r w₀))
+    → b ≡ member p (take k (rows_of r w₀)) → Inserted r w₀ w₀ k p (then_some b k)
+inserted_full {r} {w₀} p k true h a q e = inserted_there p k (omega arith) a (insert_member p _ q (member_out p _ (sym e)))
+inserted_full {r} {w₀} p k false h a q e =
+    let n = insert_more p (take k (rows_of r w₀)) (λ m. false≢true (e ∙ member_in p _ m)) in
+    (omega (arith, n, length_packets r w₀ k (omega arith)), refl)
 
 -- where fewer than 16 are, there is room
 pub inserted_some : (r : ℕ) (w w₀ : List ℕ) (k : ℕ) (p : Packet) (o : Option ℕ) → k < 16 → Inserted r w w₀ k p o → IsSome o

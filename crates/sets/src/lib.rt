@@ -160,12 +160,13 @@ pub fn insert_in<const R: usize>(w: &mut [u16], k: usize, p: &[u16; R]) -> Optio
     requires { (k ≤ most_packets) × Array R w.old × Ascending (take k (rows_of R w.old)) }
     ensures { Inserted R w.new w.old k p.now result }
 {
+    // Where there is no room, no place is asked for: p is there, or they would be 17.
+    if MOST <= k {
+        return rows::has_row::<R>(w, k, p).then_some(k);
+    }
     let Some(i) = place_in::<R>(w, k, p) else {
         return Some(k);
     };
-    if MOST <= k {
-        return None;
-    }
     raise::<R>(w, i, k, 1);
     rows::put_row::<R>(w, i, p);
     Some(k + 1)

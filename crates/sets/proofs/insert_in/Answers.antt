@@ -1,15 +1,16 @@
--- By where the packet goes: it is there, there is no room, or it is put in the gap.
+-- There is no room, or by where the packet goes: it is there, or it is put in the gap.
 use Prim.Native.Nat.{◌≤◌}
 use native.Mathlib.Omega.{arith}
 use lib.Seq.{length-take-le}
 use Rattle.rows.specs.Chunks.{rows_of}
 use Rattle.rows.proofs.Chunks.{length_rows_lem}
-use Rattle.sets.proofs.Inserting.{inserted, inserted_there, inserted_not}
+use Rattle.sets.proofs.Inserting.{inserted, inserted_there, inserted_full}
 use Rattle.sets.proofs.insert_in.Goals as goal
 
 pub returns-then-k-ge-MOST : goal.returns-then-k-ge-MOST
 returns-then-k-ge-MOST g c =
-    inserted_not g.row.R _ _ c.in-Some.i c.args.k (omega (arith, c.requires.0)) (rw c.in-Some.is at c.place_in.ensures).1
+    rw c.then_some.ensures
+    (inserted_full _ c.args.k c.has_row.result (omega (arith, c.requires.0, c.if-k-ge-MOST.true)) c.requires.1 c.requires.2 c.has_row.ensures)
 
 pub returns-in_default : goal.returns-in_default
 returns-in_default g c =
