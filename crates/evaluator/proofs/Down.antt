@@ -5,8 +5,8 @@ use mathlib.Core.Path.{◌≡◌, refl, ap}
 use mathlib.Core.Bool.{Bool, true, false, ◌||◌}
 use mathlib.Core.List.{List, [], ◌∷◌}
 use native.Mathlib.Numerals.{add-one}
-use lib.ListN.{length, drop, get_or, length-drop}
-use lib.Seq.{drop-cons}
+use lib.ListN.{length, take, drop, get_or, length-drop}
+use lib.Seq.{drop-cons, take_all}
 use Rattle.std.specs.Prelude.{Result}
 use Rattle.rules.specs.Packets.{places, Packet, Packets, without, most_packets}
 use Rattle.rules.specs.Parts.{Part, Not, Sum, Seq, Beside, Table, parts, deep, names_open}
@@ -171,6 +171,10 @@ module _ (wp wq : ℕ) (p q : Part) (x : Packet) where
 
   pub over_rest : (s : Packets) → most_packets < width (Beside wp wq p q) s → most_packets < width (Beside wp wq p q) (x ∷ s)
   over_rest s h = omega (arith, width_more wp wq p q x s)
+
+-- a row has no more values than are taken of it
+pub whole_row : (x : Packet) (w : ℕ) {s : Packets} → length x ≡ 8 → s ≡ without w (take 8 x) ∷ [] → s ≡ without w x ∷ []
+whole_row x w h e = let l : length x ≤ 8 = omega arith in rw (take_all 8 x l) at e
 
 -- ---- the packets of a set from packet i on
 

@@ -6,7 +6,7 @@
 
 mod packet_set;
 
-ghost use Rattle.std.specs.Prelude.{◌≡◌, true, [], map, ◌+◌, ◌<◌, ◌≤◌, take, get_or};
+ghost use Rattle.std.specs.Prelude.{◌≡◌, true, [], map, ◌+◌, ◌<◌, ◌≤◌, length, take, get_or};
 ghost use Rattle.std.proofs.Math.Seq.{slice};
 ghost use Rattle.rules.specs.Masks.{all_fields};
 ghost use Rattle.rules.specs.Packets.{places, most_packets, Ascending, passes, put, keep, gathered, union, lacks, mix, pairs};
@@ -154,21 +154,22 @@ fn place_in<const R: usize>(w: &[u16], k: usize, p: &[u16; R]) -> Option<usize>
     Some(0)
 }
 
-// p put in its place among the first k packets; gives how many they are then. Where they would be 17, it gives none and the array stays;
-// rows after row k stay in any case.
-pub fn insert_in<const R: usize>(w: &mut [u16], k: usize, p: &[u16; R]) -> Option<usize>
-    requires { (k ≤ most_packets) × Array R w.old × Ascending (take k (rows_of R w.old)) }
-    ensures { Inserted R w.new w.old k p.now result }
+// The first R values of p put in their place among the first k packets; gives how many they are then. Where they would be 17, it gives none
+// and the array stays; rows after row k stay in any case.
+pub fn insert_in<const R: usize>(w: &mut [u16], k: usize, p: &[u16]) -> Option<usize>
+    requires { (k ≤ most_packets) × (R ≤ length p.now) × Array R w.old × Ascending (take k (rows_of R w.old)) }
+    ensures { Inserted R w.new w.old k (take R p.now) result }
 {
+    let row: &[u16; R] = p.first_chunk().unwrap();
     // Where there is no room, no place is asked for: p is there, or they would be 17.
     if MOST <= k {
-        return rows::has_row::<R>(w, k, p).then_some(k);
+        return rows::has_row::<R>(w, k, row).then_some(k);
     }
-    let Some(i) = place_in::<R>(w, k, p) else {
+    let Some(i) = place_in::<R>(w, k, row) else {
         return Some(k);
     };
     raise::<R>(w, i, k, 1);
-    rows::put_row::<R>(w, i, p);
+    rows::put_row(w, i, row);
     Some(k + 1)
 }
 

@@ -24,7 +24,7 @@ pub struct PacketSet {
 pub struct TooWide;
 
 impl PacketSet {
-    ghost use Rattle.std.specs.Prelude.{[], ◌∷◌, map, length, get_or, ◌<◌, OnOk, OnErr};
+    ghost use Rattle.std.specs.Prelude.{[], ◌∷◌, map, length, take, get_or, ◌<◌, OnOk, OnErr};
     ghost use Rattle.rules.specs.Masks.{less};
     ghost use Rattle.rules.specs.Packets.{most_packets, padded, passes, put, keep, gathered, lacks, union, pairs, without, values_of};
     ghost use Rattle.rows.specs.Arrays.{Emitted};
@@ -55,10 +55,12 @@ impl PacketSet {
         }
     }
 
-    // The set of one packet, a row by itself, without the fields of w.
-    pub fn alone(row: &Row, w: u8, mask: u8) -> PacketSet
-        ensures { Is result (less mask w) (without w row.now ∷ []) }
+    // The set of one packet, the first values of a slice, without the fields of w.
+    pub fn alone(row: &[u16], w: u8, mask: u8) -> PacketSet
+        requires { places ≤ length row.now }
+        ensures { Is result (less mask w) (without w (take places row.now) ∷ []) }
     {
+        let row: &Row = row.first_chunk().unwrap();
         let bare = rows::bare(u16::from(w), row);
         let mut values = [0u16; WORDS];
         rows::put_row(&mut values, 0, &bare);

@@ -8,7 +8,7 @@ use Rattle.evaluator.proofs.Decoder.{stands_beside, table_used, table_none}
 use Rattle.evaluator.proofs.WorkLaws.{few, gives_id, gives_not, gives_table, gives_seq, gives_sum, wide_sum, gives_none}
 use Rattle.evaluator.proofs.WorkLaws.{gives_pair, wide_pair, gives_split, wide_split}
 use Rattle.evaluator.proofs.Down.{under_not, sum_left, sum_right, seq_left, seq_right, beside_left, beside_right}
-use Rattle.evaluator.proofs.Down.{on, over_on, goes_on, goes_over, alone, from_end, from_here, few_left, some_left}
+use Rattle.evaluator.proofs.Down.{on, over_on, goes_on, goes_over, alone, whole_row, from_end, from_here, few_left, some_left}
 use Rattle.evaluator.proofs.Down.{down, down_table, enter, enter_beside, did_there, gives_there, small_here, small, small_table}
 use Rattle.evaluator.proofs.Down.{over_not, over_table, over_sum_left, over_sum_right, over_seq_left, over_seq_right}
 use Rattle.evaluator.proofs.Down.{over_beside_left, over_beside_right, over_first, over_rest}
@@ -158,7 +158,7 @@ one_packet-evaluate_part-requires t c = down t beside_left c.decreases c.require
 pub one_packet-returns-in_err-first : goal.one_packet-returns-in_err-first
 one_packet-returns-in_err-first t c =
     rw (handed_up c.from_residual.ensures.1)
-    (over_beside_left _ _ _ _ _ (over_on _ c.alone-left.ensures.same c.in_err-first.ensures))
+    (over_beside_left _ _ _ _ _ (over_on _ (whole_row _ _ c.told-row c.alone-left.ensures.same) c.in_err-first.ensures))
 
 pub one_packet-evaluate_part-requires-2 : goal.one_packet-evaluate_part-requires-2
 one_packet-evaluate_part-requires-2 t c =
@@ -168,13 +168,13 @@ one_packet-evaluate_part-requires-2 t c =
 pub one_packet-returns-in_err-second : goal.one_packet-returns-in_err-second
 one_packet-returns-in_err-second t c =
     rw (handed_up c.from_residual-in_err-second.ensures.1)
-    (over_beside_right _ _ _ _ _ (goes_over _ _ _ _ c.in_ok-first.ensures _ (over_on _ c.alone-right.ensures.same c.in_err-second.ensures)))
+    (over_beside_right _ _ _ _ _ (goes_over _ _ _ _ c.in_ok-first.ensures _ (over_on _ (whole_row _ _ c.told-row c.alone-right.ensures.same) c.in_err-second.ensures)))
 
 pub one_packet-returns-in_err-pair : goal.one_packet-returns-in_err-pair
 one_packet-returns-in_err-pair t c =
-    let first = on c.alone-left.ensures.same c.in_ok-first.ensures in
+    let first = on (whole_row _ _ c.told-row c.alone-left.ensures.same) c.in_ok-first.ensures in
     rw (handed_up c.from_residual-in_err-pair.ensures.1)
-    (wide_pair _ _ _ _ _ first (goes_on _ _ _ _ first (on c.alone-right.ensures.same c.in_ok-second.ensures)) c.in_err-pair.ensures.wide)
+    (wide_pair _ _ _ _ _ first (goes_on _ _ _ _ first (on (whole_row _ _ c.told-row c.alone-right.ensures.same) c.in_ok-second.ensures)) c.in_err-pair.ensures.wide)
 
 pub one_packet-joined-requires : goal.one_packet-joined-requires
 one_packet-joined-requires t c = record {
@@ -184,9 +184,9 @@ one_packet-joined-requires t c = record {
 
 pub one_packet-returns : goal.one_packet-returns
 one_packet-returns t c =
-    let first = on c.alone-left.ensures.same c.in_ok-first.ensures in
+    let first = on (whole_row _ _ c.told-row c.alone-left.ensures.same) c.in_ok-first.ensures in
     rw c.joined.ensures
-    (gives_pair _ _ _ _ _ first (goes_on _ _ _ _ first (on c.alone-right.ensures.same c.in_ok-second.ensures)) (few c.pair.new.self)
+    (gives_pair _ _ _ _ _ first (goes_on _ _ _ _ first (on (whole_row _ _ c.told-row c.alone-right.ensures.same) c.in_ok-second.ensures)) (few c.pair.new.self)
     c.in_ok-pair.ensures.paired.same)
 
 pub walk_packets-returns-then-i-set : goal.walk_packets-returns-then-i-set
