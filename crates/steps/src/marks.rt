@@ -31,7 +31,7 @@ impl<'a> MarkedBook<'a> {
         requires { Readable bytes.now }
         ensures { result ≡ bytes.now }
     {
-        mark(bytes, ends);
+        crate::mark(bytes, ends);
         MarkedBook { bytes, ends }
     }
 
@@ -55,7 +55,7 @@ impl<'a> MarkedBook<'a> {
         requires { Runnable self.now at }
         ensures { result ≡ after self.now most_depth at }
     {
-        end_at(self.ends, at)
+        crate::end_at(self.ends, at)
     }
 
     // Where the body of entry x starts.
