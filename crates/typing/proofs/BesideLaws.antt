@@ -9,10 +9,11 @@ use Rattle.rules.specs.declared.Head.{Head}
 use Rattle.rules.specs.Codes.{operands_of}
 use Rattle.rules.specs.Reading.{read_operands, head, head_at, fields_of, tables_of}
 use Rattle.rules.proofs.ReadingLaws.{head_is, operands_were}
-use Rattle.typing.specs.declared.State.{State}
+use Rattle.typing.specs.Walking.{State}
 use Rattle.typing.specs.declared.Way.{Way}
 use Rattle.typing.specs.declared.Notes.{Notes}
-use Rattle.typing.specs.Walking.{and_on, walked, tallied, tally_of, moved, bare, joined, right_states, fault_after, Kept, Asked, BesideAsked}
+use Rattle.typing.specs.Walking.{state, answer, and_on, walked, tallied, tally_of, moved, bare, joined, right_states, fault_after, Kept, Asked, BesideAsked}
+use Rattle.typing.proofs.PackLaws.{is_state}
 use Rattle.typing.proofs.TallyLaws.{bared, met}
 use Rattle.typing.proofs.WalkLaws.{inner, beside_stop, walk_beside}
 
@@ -44,6 +45,7 @@ module _ (s : List ℕ) (n : Notes) (st : State) (d : ℕ) (w : Way) (a : Beside
         record {
           sound = a.asked.sound;
           kept = record {
+            start = omega arith;
             within = inside.1;
             parts = omega (arith, k.parts);
             few = λ x. omega (arith, k.few x);
@@ -84,4 +86,9 @@ module _ (s : List ℕ) (n : Notes) (st : State) (d : ℕ) (w : Way) (a : Beside
             pub both_kept : (f : Option ℕ) → Kept s w.level (tally_of (joined i.left i.right st l r) (faulted f u))
             both_kept f =
                 let c : Kept s (inner w).level (tally_of r u) = rw er at g in
-                record { within = c.within; parts = c.parts; few = c.few; room = c.room; deep = omega (arith, c.deep) }
+                record { start = c.start; within = c.within; parts = c.parts; few = c.few; room = c.room; deep = omega (arith, c.deep) }
+
+            pub joined_is : (z : ℕ) → state z ≡ joined i.left i.right st l r → answer z ≡ Ok (joined i.left i.right st l r)
+            joined_is z e =
+                let c : Kept s (inner w).level (tally_of r u) = rw er at g in
+                is_state z (joined i.left i.right st l r) e c.start

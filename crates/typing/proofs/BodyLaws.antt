@@ -10,7 +10,7 @@ use Rattle.rules.specs.Books.{most_depth}
 use Rattle.rules.specs.Reading.{read_part, part_at}
 use Rattle.rules.proofs.ReadingLaws.{body_wrong, body_whole, body_rest}
 use Rattle.rules.proofs.Decoding.{read, read_end}
-use Rattle.typing.specs.declared.State.{State}
+use Rattle.typing.specs.Walking.{State}
 use Rattle.typing.specs.declared.Notes.{Notes}
 use Rattle.typing.specs.Walking.{Tally, told, way_of, walked, tallied, begun, shut, scope_at, Kept, body_way, Asked, Body, tally_of}
 use Rattle.typing.proofs.WalkLaws.{bytes, names}

@@ -12,7 +12,7 @@ use Rattle.rules.specs.Parts.{Part, Id, write, size, parts, deep}
 use Rattle.rules.specs.Typing.{wrongs}
 use Rattle.rules.specs.Reading.{stands, part_at, head, built}
 use Rattle.rules.proofs.CodeLaws.{by_code}
-use Rattle.typing.specs.declared.State.{State}
+use Rattle.typing.specs.Walking.{State}
 use Rattle.typing.specs.declared.Way.{Way}
 use Rattle.typing.specs.declared.Notes.{Notes}
 use Rattle.typing.specs.Walking.{Tally, told, way_of, and_on, walked, tallied, shut, tally_of, moved, leafed, leaf_read, leaf_at}
@@ -24,6 +24,7 @@ use Rattle.typing.proofs.WalkLaws.{deeper, leaf_any, only_predicates, walk_short
 pub past_kept : (s : List ℕ) (o k : ℕ) (st : State) (n : Notes) → Kept s o (tally_of st n) → st.at + 1 + k ≤ length s
     → Kept s o (tally_of (moved k st) n)
 past_kept s o k st n g h = record {
+  start = omega arith;
   within = h;
   parts = omega (arith, g.parts);
   few = λ x. omega (arith, g.few x);
@@ -78,6 +79,7 @@ module _ (s : List ℕ) (w : Way) (st : State) (n v : Notes) (k : Kept s w.level
       let at : r.at ≡ st.at + size p = cc in
       let count : r.parts ≡ st.parts + parts p = cc in
       rw m (record {
+        start = omega (arith, at, k.start);
         within = i;
         parts = omega (arith, at, count, q.2, q.3, k.parts);
         few = λ y. omega (arith, at, noted_few p w.level n.uses y, k.few y);

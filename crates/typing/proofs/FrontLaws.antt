@@ -61,13 +61,14 @@ module _ (s : List ℕ) (e : ℕ) (h : first_body (tables_of s) ≤ e) where
 
   -- a body begins below no concurrent part
   pub front_asked : (n : Notes) (start : ℕ) (table : Bool) → Bytes s → fields_of s ≤ most_fields → tables_of s ≤ most_tables → e ≤ length s
-      → length s ≤ most_bytes → start ≤ e → length n.uses ≡ 16 → ((x : ℕ) → (get_or n.uses x unused).count ≤ start)
+      → length s ≤ most_bytes → 1 ≤ start → start ≤ e → length n.uses ≡ 16 → ((x : ℕ) → (get_or n.uses x unused).count ≤ start)
       → Asked (take e s) n (begun start) most_depth (body_way table)
-  front_asked n start table small k t le few hi room noted =
+  front_asked n start table small k t le few lo hi room noted =
       let len : length (take e s) ≡ e = length-take-le e s le in
       record {
         sound = front_sound small k t le few;
         kept = record {
+          start = lo;
           within = omega (arith, len);
           parts = omega arith;
           few = noted;

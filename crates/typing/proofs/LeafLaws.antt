@@ -23,32 +23,26 @@ use Rattle.rules.specs.Reading.{read_operands, stands, read_part, head, head_at,
 use Rattle.rules.proofs.ReadingLaws.{head_is, operands_none, operands_were, use_known, part_wrong, byte_next, byte_wrong, then_next}
 use Rattle.rules.proofs.ReadingLaws.{stands_37, stands_8, stands_known}
 use Rattle.rules.proofs.CodeLaws.{by_code}
-use Rattle.typing.specs.declared.State.{State}
+use Rattle.typing.specs.Walking.{State}
+use Rattle.book.specs.Operands.{Within}
 use Rattle.typing.specs.declared.Way.{Way}
 use Rattle.typing.specs.declared.Use.{Use}
 use Rattle.typing.specs.declared.Notes.{Notes}
-use Rattle.typing.specs.Walking.{moved, masked, unused, noted, note_use, noting, shut, scope_at, leaf_at, leaf_read, if_read}
+use Rattle.typing.specs.Walking.{moved, masked, unused, noted, note_use, noting, shut, scope_at, leaf_at, leaf_read}
 use Rattle.typing.specs.Walking.{LeafAsked, leafed, Noted}
 
 -- the head that the code reads where a byte stands
 pub shown : (s : List ℕ) (at : ℕ) (h : Head) → at < length s → h ≡ head_at s at → h ≡ head s at
 shown s at h l e = e ∙ head_is s at l
 
--- once the operands are read
-pub if_so : (x y e : ℕ) (r ro : Result ℕ ℕ) → r ≡ ro → r ≡ Ok e → y ≡ x → Ok y ≡ if_read x ro
-if_so x y e r ro q n h = rw (← q, n, h)
-
 -- the mask of one field, as the code shifts it
 pub bit_is : (k : ℕ) → k < 8 → 1 * 2 ^ k % 256 ≡ field k
 bit_is k h = rw one-mul (mod-eq_of_lt (pow-lt h))
 
-read_was : (x b : ℕ) (ro : Result ℕ ℕ) → Ok b ≡ if_read x ro → (e : ℕ) × (ro ≡ Ok e) × (b ≡ x)
-read_was x b (Ok e) q = (e, refl, cc)
-read_was x b (Err a) q = absurd cc
-
-read_not : (x a : ℕ) (ro : Result ℕ ℕ) → Err a ≡ if_read x ro → ro ≡ Err a
-read_not x a (Ok e) q = absurd cc
-read_not x a (Err b) q = cc
+-- where the operands cannot be read
+pub read_within : (s : List ℕ) (a : ℕ) (r : Result ℕ ℕ) → length s ≤ most_bytes → Within (length s) r → r ≡ Err a → a ≤ most_bytes
+unfolding Within
+read_within s a r h w e = let k : a ≤ length s = rw e at w in omega (arith, k)
 
 -- what the masks and the place of a part come to, once its operands are read
 module _ (s : List ℕ) (st : State) (code e : ℕ) (r : Result ℕ ℕ) (q : r ≡ read_operands s (fields_of s) (tables_of s) code st.at)
@@ -111,27 +105,15 @@ module _ (s : List ℕ) (st : State) (w : Way) (code : ℕ) (e : get_or s st.at 
   leaf_noted r n v g = rw (leaf_part s st.at code e) g
 
 -- a test or a set, by the mask of its field
-module _ (s : List ℕ) (st : State) (code : ℕ) (lo : 2 ≤ code) (up : code < 4) (r : Result ℕ ℕ)
-    (er : r ≡ if_read (field (head s st.at).field) (read_operands s (fields_of s) (tables_of s) code st.at)) where
-  pub field_off : (a : ℕ) → r ≡ Err a
-      → Err a ≡ leafed st (built (head s st.at) (shut s) code Id Id) (read_operands s (fields_of s) (tables_of s) code st.at)
-  field_off a q = rw (read_not (field (head s st.at).field) a (read_operands s (fields_of s) (tables_of s) code st.at) (sym q ∙ er))
-
-  module _ (b : ℕ) (q : r ≡ Ok b) where
-    was : (e : ℕ) × (read_operands s (fields_of s) (tables_of s) code st.at ≡ Ok e) × (b ≡ field (head s st.at).field)
-    was = read_was (field (head s st.at).field) b (read_operands s (fields_of s) (tables_of s) code st.at) (sym q ∙ er)
-
-    pub field_within : st.at + 1 + operands_of code ≤ length s
-    field_within = ends_within s st code was.0 (read_operands s (fields_of s) (tables_of s) code st.at) refl was.1
-
-    pub field_on : (t w : ℕ) → t ≡ cond (eqb code 2) b 0 → w ≡ cond (eqb code 3) b 0
-        → Ok (moved (operands_of code) (masked t w st))
-        ≡ leafed st (built (head s st.at) (shut s) code Id Id) (read_operands s (fields_of s) (tables_of s) code st.at)
-    field_on t w et ew =
-        let i = field_is (head s st.at) (shut s) code lo up in
-        leafed_next s st code was.0 (read_operands s (fields_of s) (tables_of s) code st.at) refl was.1
-        (built (head s st.at) (shut s) code Id Id) t w i.0 i.1
-        (et ∙ ap (λ (x : ℕ). cond (eqb code 2) x 0) was.2 ∙ sym i.2) (ew ∙ ap (λ (x : ℕ). cond (eqb code 3) x 0) was.2 ∙ sym i.3)
+module _ (s : List ℕ) (st : State) (code : ℕ) (lo : 2 ≤ code) (up : code < 4) (e : ℕ) (r : Result ℕ ℕ)
+    (q : r ≡ read_operands s (fields_of s) (tables_of s) code st.at) (re : r ≡ Ok e) where
+  pub field_on : (b : ℕ) → b ≡ field (head s st.at).field → (t w : ℕ) → t ≡ cond (eqb code 2) b 0 → w ≡ cond (eqb code 3) b 0
+      → Ok (moved (operands_of code) (masked t w st))
+      ≡ leafed st (built (head s st.at) (shut s) code Id Id) (read_operands s (fields_of s) (tables_of s) code st.at)
+  field_on b eb t w et ew =
+      let i = field_is (head s st.at) (shut s) code lo up in
+      leafed_next s st code e r q re (built (head s st.at) (shut s) code Id Id) t w i.0 i.1
+      (et ∙ ap (λ (x : ℕ). cond (eqb code 2) x 0) eb ∙ sym i.2) (ew ∙ ap (λ (x : ℕ). cond (eqb code 3) x 0) eb ∙ sym i.3)
 
 -- a use of a table
 module _ (s : List ℕ) (n : Notes) (st : State) (way : Way) (a : LeafAsked s n st way) (e : ℕ) (r : Result ℕ ℕ)

@@ -1,5 +1,6 @@
 -- What is shown for the proofs of the code.
 pub mod EntryLaws
+pub mod PackLaws
 pub mod LeafLaws
 pub mod TallyLaws
 pub mod WalkLaws

@@ -11,7 +11,7 @@ use Rattle.std.specs.Prelude.{Ok}
 use Rattle.rules.specs.Parts.{Part, parts, deep}
 use Rattle.rules.specs.Books.{scope_of, first_body, use_of, most_depth, most_tables, Bytes}
 use Rattle.rules.specs.Reading.{read_part, part_at, fields_of, tables_of, reads_at, writes_at, body_start, body_at, use_at, main_of}
-use Rattle.typing.specs.declared.State.{State}
+use Rattle.typing.specs.Walking.{State}
 use Rattle.typing.specs.declared.Use.{Use}
 use Rattle.typing.specs.declared.Notes.{Notes}
 use Rattle.typing.specs.Summing.{total, top, body_parts, body_deep, Cleared}

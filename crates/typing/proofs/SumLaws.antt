@@ -15,7 +15,7 @@ use Rattle.rules.specs.Reading.{tables_of, length_at, reads_at, writes_at, body_
 use Rattle.rules.specs.Reading.{wrong_body, misfit, wrongs_in, misfits_in}
 use Rattle.rules.proofs.Whole.{table_at, tables_length}
 use Rattle.std.specs.Prelude.{None, Some}
-use Rattle.typing.specs.declared.State.{State}
+use Rattle.typing.specs.Walking.{State}
 use Rattle.typing.specs.declared.Notes.{Notes}
 use Rattle.typing.specs.Walking.{Tally, told, tally_of, begun, mark, noted}
 use Rattle.typing.specs.Summing.{wrongs_of, misfits_of, wrongs_from, misfits_from}

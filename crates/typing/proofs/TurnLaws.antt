@@ -21,7 +21,7 @@ use Rattle.rules.proofs.Decoding.{then_was, body_read}
 use Rattle.rules.proofs.Whole.{names_use, names_none}
 use Rattle.typing.proofs.EntryLaws.{entries_stop, entries_step, entry_open, entry_table}
 use Rattle.std.specs.Prelude.{None, Some, Result, Ok, Err}
-use Rattle.typing.specs.declared.State.{State}
+use Rattle.typing.specs.Walking.{State}
 use Rattle.typing.specs.declared.Use.{Use}
 use Rattle.typing.specs.declared.Notes.{Notes}
 use Rattle.typing.specs.declared.Sums.{Sums}
@@ -76,7 +76,7 @@ module _ (s : List ℕ) (F : Fronted s) where
         → Asked (take (at + k) s) n (begun at) most_depth (body_way table)
     entry_asked n room few =
         front_asked s (at + k) (omega (arith, end_is, above (suc y))) n at table F.bytes F.fields.1 F.tables end_in F.long.1
-        (omega arith) room few
+        (omega (arith, ea, above y)) (omega arith) room few
 
     entry_body : (n v : Notes) (x : Result State ℕ) → Body (take (at + k) s) table at (tally_of (begun at) n) x v
         → Body (take (body_start s (suc y)) s) table (body_start s y) (tally_of (begun (body_start s y)) n) x v

@@ -1,6 +1,6 @@
 -- The one walk: what stands of a body after each part, as one tally that goes through it from left to right.
 use Rattle.std.specs.Option.{option_or}
-use Rattle.std.specs.Prelude.{ℕ, suc, max, ◌+◌, ◌≤◌, ◌<◌, ◌≡◌, Bool, false, not, cond, List, [], ◌∷◌, length, get_or, set}
+use Rattle.std.specs.Prelude.{ℕ, suc, max, ◌+◌, ◌/◌, ◌%◌, ◌≤◌, ◌<◌, ◌≡◌, eqb, Bool, false, not, cond, List, [], ◌∷◌, length, get_or, set}
 use Rattle.std.specs.Prelude.{Option, None, Some, Result, Ok, Err, IfOk}
 use Rattle.std.specs.Int.Bits.{bit_or}
 use Rattle.rules.specs.Codes.{parts_of}
@@ -8,7 +8,6 @@ use Rattle.rules.specs.Parts.{Part, Id, Drop, Test, Set, Not, Sum, Seq, Beside, 
 use Rattle.rules.specs.Typing.{tested, written, right_masks, wrongs}
 use Rattle.rules.specs.Books.{Scope, scope_of, most_fields, most_tables, most_bytes, most_depth, first_body}
 use Rattle.rules.specs.Reading.{read_body, read_part, part_at, fields_of, tables_of, reads_at, writes_at}
-use Rattle.typing.specs.declared.State.{State}
 use Rattle.typing.specs.declared.Way.{Way}
 use Rattle.typing.specs.declared.Use.{Use}
 use Rattle.typing.specs.declared.Notes.{Notes}
@@ -23,6 +22,27 @@ pub record Tally : Type 0 where
   pub fault : Option ℕ
   pub deep : ℕ
   pub uses : List Use
+
+-- ---- what stands after a part, and the number that holds it: 16 bits for each
+pub record State : Type 0 where
+  pub at : ℕ
+  pub parts : ℕ
+  pub tests : ℕ
+  pub writes : ℕ
+
+abbrev pub state : ℕ → State
+state n = record { at = n % 65536; parts = n / 65536 % 65536; tests = n / 4294967296 % 65536; writes = n / 281474976710656 }
+
+-- an answer in one number: the place of a refusal stands above 0, where a state has its place
+abbrev pub unpacked : ℕ → Result ℕ ℕ
+unpacked r = cond (eqb (r % 65536) 0) (Err (r / 65536)) (Ok r)
+
+abbrev pub states : Result ℕ ℕ → Result State ℕ
+states (Ok n) = Ok (state n)
+states (Err a) = Err a
+
+abbrev pub answer : ℕ → Result State ℕ
+answer r = states (unpacked r)
 
 abbrev pub tally_of : State → Notes → Tally
 tally_of st n = record {
@@ -137,6 +157,7 @@ pub record Sound (s : List ℕ) : Type 0 where
 
 -- below o concurrent parts
 pub record Kept (s : List ℕ) (o : ℕ) (t : Tally) : Type 0 where
+  pub start : 1 ≤ t.at
   pub within : t.at ≤ length s
   pub parts : t.parts ≤ t.at
   pub few : (x : ℕ) → (get_or t.uses x unused).count ≤ t.at
@@ -161,10 +182,6 @@ pub record BesideAsked (s : List ℕ) (n : Notes) (st : State) (d : ℕ) (w : Wa
   pub free : w.predicate ≡ false
 
 -- ---- a part with no parts below it, by the reading of its operands
-abbrev pub if_read : ℕ → Result ℕ ℕ → Result ℕ ℕ
-if_read x (Ok e) = Ok x
-if_read x (Err a) = Err a
-
 abbrev pub leafed : State → Part → Result ℕ ℕ → Result State ℕ
 leafed st p (Ok e) = Ok (record {
   at = st.at + size p;

@@ -6,12 +6,13 @@ ghost use Rattle.std.specs.Prelude.{◌≡◌, ◌+◌, ◌*◌, ◌≤◌, ◌<
 ghost use Rattle.std.specs.Option.{option_or};
 ghost use Rattle.rules.specs.Codes.{operands_of};
 ghost use Rattle.rules.specs.Parts.{Id};
-ghost use Rattle.rules.specs.Masks.{field, within, apart};
+ghost use Rattle.rules.specs.Masks.{within, apart};
 ghost use Rattle.rules.specs.Books.{most_bytes, most_depth};
 ghost use Rattle.rules.specs.Typing.{fit_masks};
 ghost use Rattle.rules.specs.Reading.{read_operands, fields_of, tables_of, head, built, verdict};
 ghost use Rattle.rules.specs.Promises.{AcceptAnswer};
-ghost use Rattle.typing.specs.Walking.{moved, masked, bare, joined, right_states, begun, body_way, unused, note_use, noting, if_read};
+ghost use Rattle.typing.specs.Walking.{state, moved, masked, bare, joined, right_states, begun, body_way, unused, note_use, noting};
+ghost use Rattle.typing.specs.Walking.{unpacked, states, answer};
 ghost use Rattle.typing.specs.Walking.{tally_of, tallied, fault_after, walked, shut, leafed, leaf_read, leaf_at, Noted};
 ghost use Rattle.typing.specs.Walking.{Sound, Kept, Asked, BesideAsked, LeafAsked, Body};
 ghost use Rattle.typing.specs.Summing.{Fronted, Cleared, So, Turned, Ends, Ended};
@@ -21,15 +22,19 @@ use rules::{
     SUM, Sizes, TABLE, TEST,
 };
 
-// What stands after a part: the place, the parts so far, and T and M so far. It goes up through the walk in memory, so it is small: a
-// body has 4,096 bytes at most.
-#[derive(Clone, Copy)]
-struct State {
-    at: u16,
-    parts: u16,
-    tests: u8,
-    writes: u8,
-}
+// What stands after a part is one number, so that the walk hands it up in a register: from its low end the place, the parts so far, and T
+// and M so far, 16 bits each. A struct of the four goes up through memory: with it accept takes 1.1 times as long on a book of concurrent
+// parts.
+const WIDTH: u64 = 65536;
+
+// The unit of T, which stands above the place and the parts.
+const TESTS: u64 = 4294967296;
+
+// The unit of M, the highest of the four.
+const WRITES: u64 = 281474976710656;
+
+// One place and one part more.
+const STEP: u64 = 65537;
 
 // How a part stands: whether in a table's body, whether only a predicate may stand there, each asked for by itself, and how many
 // concurrent parts are above it.
@@ -58,118 +63,167 @@ struct Notes {
 
 // ---- the state
 
-impl State {
-    // The place, as an index.
-    fn place(self) -> usize
-        ensures { result ≡ self.at }
-    {
-        usize::from(self.at)
-    }
+// The place, as an index.
+fn place(st: u64) -> usize
+    ensures { result ≡ (state st).at }
+{
+    (st % WIDTH) as usize
+}
 
-    // Past a code and its operands: one part more.
-    fn past(self, code: u8) -> State
-        requires { (self.at ≤ most_bytes) × (self.parts ≤ most_bytes) }
-        ensures { result ≡ moved (operands_of code) self }
-    {
-        let shape = rules::shape_of(code);
-        State {
-            at: self.at + 1 + shape.operands as u16,
-            parts: self.parts + 1,
-            ..self
-        }
-    }
+fn parts(st: u64) -> usize
+    ensures { result ≡ (state st).parts }
+{
+    (st / WIDTH % WIDTH) as usize
+}
 
-    // The same with no masks.
-    fn bare(self) -> State
-        ensures { result ≡ bare self }
-    {
-        State {
-            tests: 0,
-            writes: 0,
-            ..self
-        }
-    }
+fn tests(st: u64) -> u64
+    ensures { result ≡ (state st).tests }
+{
+    st / TESTS % WIDTH
+}
 
-    // With further fields tested and written.
-    fn with_masks(self, tests: u8, writes: u8) -> State
-        ensures { result ≡ masked tests writes self }
-    {
-        State {
-            tests: self.tests | tests,
-            writes: self.writes | writes,
-            ..self
-        }
-    }
+fn writes(st: u64) -> u64
+    ensures { result ≡ (state st).writes }
+{
+    st / WRITES
+}
+
+// Past a code and its operands: one part more.
+fn past(st: u64, code: u8) -> u64
+    requires { ((state st).at ≤ most_bytes) × ((state st).parts ≤ most_bytes) }
+    ensures { state result ≡ moved (operands_of code) (state st) }
+{
+    let shape = rules::shape_of(code);
+    st + STEP + shape.operands as u64
+}
+
+// The same with no masks.
+fn bare(st: u64) -> u64
+    ensures { state result ≡ bare (state st) }
+{
+    st % TESTS
+}
+
+// The same with masks that both fit in 16 bits.
+fn with_both(st: u64, t: u64, m: u64) -> u64
+    requires { (t < 65536) × (m < 65536) }
+    ensures { state result ≡ record { at = (state st).at; parts = (state st).parts; tests = t; writes = m } }
+{
+    st % TESTS + TESTS * (t + WIDTH * m)
+}
+
+// With further fields tested and written.
+fn with_masks(st: u64, t: u8, m: u8) -> u64
+    ensures { state result ≡ masked t m (state st) }
+{
+    with_both(st, tests(st) | u64::from(t), writes(st) | u64::from(m))
 }
 
 // Both sides' states joined to the state before them.
-fn joined(st: State, l: State, r: State, wp: u8, wq: u8) -> State
-    ensures { result ≡ joined wp wq st l r }
+fn joined(st: u64, l: u64, r: u64, wp: u8, wq: u8) -> u64
+    ensures { state result ≡ joined wp wq (state st) (state l) (state r) }
 {
-    State {
-        tests: st.tests | (l.tests | r.tests),
-        writes: st.writes | (wp | wq),
-        ..r
+    let t = tests(st) | (tests(l) | tests(r));
+    with_both(r, t, writes(st) | u64::from(wp | wq))
+}
+
+// ---- an answer: a state, or the place of the first byte that cannot stand there
+
+// The place of a refusal stands where a state has its parts, and 0 where a state has its place, which is never 0.
+fn refusal(at: usize) -> u64
+    requires { at ≤ most_bytes }
+    ensures { answer result ≡ Err at }
+{
+    at as u64 * WIDTH
+}
+
+// An answer taken apart.
+fn opened(r: u64) -> Result<u64, usize>
+    ensures { result ≡ unpacked r }
+{
+    if r % WIDTH == 0 {
+        Err((r / WIDTH) as usize)
+    } else {
+        Ok(r)
     }
 }
 
+// ---- masks
+
 // Does a mask lie in another?
-fn within(a: u8, b: u8) -> bool
+fn within(a: u64, b: u64) -> bool
     ensures { result ≡ within a b }
 {
     a | b == b
 }
 
 // Have two masks no field in common?
-fn apart(a: u8, b: u8) -> bool
+fn apart(a: u64, b: u64) -> bool
     ensures { result ≡ apart a b }
 {
     a & b == 0
 }
 
 // The rule of a concurrent part with masks wp and wq, over the states after its sides.
-fn right_states(wp: u8, wq: u8, p: State, q: State) -> bool
-    ensures { result ≡ right_states wp wq p q }
+fn right_states(wp: u8, wq: u8, p: u64, q: u64) -> bool
+    ensures { result ≡ right_states wp wq (state p) (state q) }
 {
-    within(p.writes, wp)
-        && within(q.writes, wq)
-        && apart(wp, wq)
-        && apart(p.tests, wq)
-        && apart(q.tests, wp)
+    let v = u64::from(wp);
+    let w = u64::from(wq);
+    within(writes(p), v)
+        && within(writes(q), w)
+        && apart(v, w)
+        && apart(tests(p), w)
+        && apart(tests(q), v)
 }
 
 // A body fits (R, W) if T lies in R and W together and M lies in W.
-fn fit_state(r: u8, w: u8, st: State) -> bool
-    ensures { result ≡ fit_masks r w st.tests st.writes }
+fn fit_state(r: u8, w: u8, st: u64) -> bool
+    ensures { result ≡ fit_masks r w (state st).tests (state st).writes }
 {
-    within(st.tests, r | w) && within(st.writes, w)
+    within(tests(st), u64::from(r | w)) && within(writes(st), u64::from(w))
 }
 
 // ---- a part with no parts below it
 
-// The mask of the field of a test or a set, by its code.
-fn field_bit(s: &[u8], st: State, code: u8) -> Result<u8, usize>
-    requires { Sound s.now × (st.at < length s.now) × (2 ≤ code) × (code < 4) }
-    ensures { result ≡ if_read (field (head s.now st.at).field)
-        (read_operands s.now (fields_of s.now) (tables_of s.now) code st.at) }
+// A mask, where it is asked for.
+fn mask_if(asked: bool, mask: u8) -> u8
+    ensures { result ≡ cond asked mask 0 }
 {
-    book::read_operands(s, code, st.place())?;
-    Ok(1 << book::head_at(s, st.place()).field)
+    if asked { mask } else { 0 }
+}
+
+// A test or a set of a field, by its code.
+fn field_part(s: &[u8], st: u64, code: u8) -> u64
+    requires { Sound s.now × ((state st).at < length s.now) × ((state st).parts ≤ (state st).at) × (2 ≤ code) × (code < 4) }
+    ensures read { answer result ≡ leafed (state st) (built (head s.now (state st).at) (shut s.now) code Id Id)
+        (read_operands s.now (fields_of s.now) (tables_of s.now) code (state st).at) }
+    ensures within { IfOk (answer result) (λ r. r.at ≤ length s.now) }
+{
+    if let Err(wrong) = book::read_operands(s, code, place(st)) {
+        return refusal(wrong);
+    }
+    let bit = 1u8 << book::head_at(s, place(st)).field;
+    let t = mask_if(code == TEST, bit);
+    past(with_masks(st, t, mask_if(code == SET, bit)), code)
 }
 
 // A use of a table. It goes by the masks that the table's entry declares.
-fn use_part(s: &[u8], notes: &mut Notes, st: State, way: Way) -> Result<State, usize>
-    requires { LeafAsked s.now notes.old st way }
-    ensures read { result ≡ leafed st (built (head s.now st.at) (shut s.now) 8 Id Id)
-        (read_operands s.now (fields_of s.now) (tables_of s.now) 8 st.at) }
-    ensures within { IfOk result (λ r. r.at ≤ length s.now) }
-    ensures noted { Noted way.level (built (head s.now st.at) (shut s.now) 8 Id Id) result notes.old notes.new }
+fn use_part(s: &[u8], notes: &mut Notes, st: u64, way: Way) -> u64
+    requires { LeafAsked s.now notes.old (state st) way }
+    ensures read { answer result ≡ leafed (state st) (built (head s.now (state st).at) (shut s.now) 8 Id Id)
+        (read_operands s.now (fields_of s.now) (tables_of s.now) 8 (state st).at) }
+    ensures within { IfOk (answer result) (λ r. r.at ≤ length s.now) }
+    ensures noted { Noted way.level (built (head s.now (state st).at) (shut s.now) 8 Id Id)
+        (answer result) notes.old notes.new }
 {
-    book::read_operands(s, TABLE, st.place())?;
-    let x = book::head_at(s, st.place()).table;
+    if let Err(wrong) = book::read_operands(s, TABLE, place(st)) {
+        return refusal(wrong);
+    }
+    let x = book::head_at(s, place(st)).table;
     notes.add_use(x, way.level);
     let w = book::writes_of(s, x);
-    Ok(st.with_masks(book::reads_of(s, x) | w, w).past(TABLE))
+    past(with_masks(st, book::reads_of(s, x) | w, w), TABLE)
 }
 
 impl Notes {
@@ -187,60 +241,53 @@ impl Notes {
     }
 }
 
-// A part with no parts below it. Inlined, so that the state is handed on in registers: else accept takes 1.6 times as long on 47 parts.
-#[inline(always)]
-fn leaf(s: &[u8], notes: &mut Notes, st: State, way: Way) -> Result<State, usize>
-    requires { LeafAsked s.now notes.old st way }
-    ensures read { result ≡ leafed st (leaf_at s.now st.at) (leaf_read s.now way st.at) }
-    ensures within { IfOk result (λ r. r.at ≤ length s.now) }
-    ensures noted { Noted way.level (leaf_at s.now st.at) result notes.old notes.new }
+// A part with no parts below it.
+fn leaf(s: &[u8], notes: &mut Notes, st: u64, way: Way) -> u64
+    requires { LeafAsked s.now notes.old (state st) way }
+    ensures read { answer result ≡ leafed (state st) (leaf_at s.now (state st).at) (leaf_read s.now way (state st).at) }
+    ensures within { IfOk (answer result) (λ r. r.at ≤ length s.now) }
+    ensures noted { Noted way.level (leaf_at s.now (state st).at) (answer result) notes.old notes.new }
 {
-    let code = s[st.place()];
+    let code = s[place(st)];
     match code {
-        ID | DROP => Ok(st.past(ID)),
-        TEST => {
-            let bit = field_bit(s, st, TEST)?;
-            Ok(st.with_masks(bit, 0).past(TEST))
-        }
+        ID | DROP => past(st, ID),
+        TEST => field_part(s, st, TEST),
         // A set is no predicate.
         SET => {
             if way.predicate {
-                return Err(st.place());
+                return refusal(place(st));
             }
-            let bit = field_bit(s, st, SET)?;
-            Ok(st.with_masks(0, bit).past(SET))
+            field_part(s, st, SET)
         }
         // A table may be used only in the main body, and is no predicate.
         TABLE => {
             if way.predicate || way.in_table {
-                return Err(st.place());
+                return refusal(place(st));
             }
             use_part(s, notes, st, way)
         }
         // The codes with parts are the walk's, and none is known from 9 on.
-        NOT..=BESIDE | 9..=255 => Err(st.place()),
+        NOT..=BESIDE | 9..=255 => refusal(place(st)),
     }
 }
 
-// What cannot stand is told by its place alone, and goes up through the parts by `let .. else`: document 01's form.
 // ---- a part and all below it. The bytes and the notes are lent whole, and state, depth and way are others at each call: so they stay
-// apart.
+// apart. What cannot stand is told by its place alone, and goes up through the parts by `let .. else`: document 01's form.
 
-// One side of a sum or a sequence: a part with no parts below it is read here, any other is walked. Inlined as a leaf is.
+// One side of a sum or a sequence: a part with no parts below it is read here, any other is walked.
 #[cycle(walking)]
-#[inline(always)]
-fn side(s: &[u8], notes: &mut Notes, st: State, depth: usize, way: Way) -> Result<State, usize>
-    requires { Asked s.now notes.old st depth way }
-    ensures told { tallied result notes.new ≡ walked s.now way depth (tally_of st notes.old) }
-    ensures kept { IfOk result (λ r. Kept s.now way.level (tally_of r notes.new)) }
+fn side(s: &[u8], notes: &mut Notes, st: u64, depth: usize, way: Way) -> u64
+    requires { Asked s.now notes.old (state st) depth way }
+    ensures told { tallied (answer result) notes.new ≡ walked s.now way depth (tally_of (state st) notes.old) }
+    ensures kept { IfOk (answer result) (λ r. Kept s.now way.level (tally_of r notes.new)) }
 {
-    if s.len() <= st.place() {
-        return Err(s.len());
+    if s.len() <= place(st) {
+        return refusal(s.len());
     }
     if depth == 0 {
-        return Err(st.place());
+        return refusal(place(st));
     }
-    if rules::shape_of(s[st.place()]).parts != 0 {
+    if rules::shape_of(s[place(st)]).parts != 0 {
         return walk(s, notes, st, depth, way);
     }
     leaf(s, notes, st, way)
@@ -259,68 +306,58 @@ fn fault_after(before: Option<usize>, right: bool, at: usize, below: Option<usiz
 
 // A concurrent part: its sides each begin with no masks, below one concurrent part more.
 #[cycle(walking)]
-fn beside_part(
-    s: &[u8],
-    notes: &mut Notes,
-    st: State,
-    depth: usize,
-    way: Way,
-) -> Result<State, usize>
-    requires { BesideAsked s.now notes.old st depth way }
-    ensures told { tallied result notes.new ≡ walked s.now way (suc depth) (tally_of st notes.old) }
-    ensures kept { IfOk result (λ r. Kept s.now way.level (tally_of r notes.new)) }
+fn beside_part(s: &[u8], notes: &mut Notes, st: u64, depth: usize, way: Way) -> u64
+    requires { BesideAsked s.now notes.old (state st) depth way }
+    ensures told { tallied (answer result) notes.new ≡ walked s.now way (suc depth) (tally_of (state st) notes.old) }
+    ensures kept { IfOk (answer result) (λ r. Kept s.now way.level (tally_of r notes.new)) }
 {
-    book::read_operands(s, BESIDE, st.place())?;
+    if let Err(wrong) = book::read_operands(s, BESIDE, place(st)) {
+        return refusal(wrong);
+    }
     let before = notes.fault;
     let below = Way {
         level: way.level + 1,
         ..way
     };
     notes.deep = notes.deep.max(below.level);
-    let left = walk(s, notes, st.bare().past(BESIDE), depth, below);
-    let Ok(l) = left else {
+    let left = walk(s, notes, past(bare(st), BESIDE), depth, below);
+    let Ok(l) = opened(left) else {
         return left;
     };
-    let right = walk(s, notes, l.bare(), depth, below);
-    let Ok(r) = right else {
+    let right = walk(s, notes, bare(l), depth, below);
+    let Ok(r) = opened(right) else {
         return right;
     };
-    let h = book::head_at(s, st.place());
+    let h = book::head_at(s, place(st));
     let apart = right_states(h.left, h.right, l, r);
-    notes.fault = fault_after(before, apart, st.place(), notes.fault);
-    Ok(joined(st, l, r, h.left, h.right))
+    notes.fault = fault_after(before, apart, place(st), notes.fault);
+    joined(st, l, r, h.left, h.right)
 }
 
 // The part at the state's place and all below it, at most depth deep. The last part below a code is walked in the loop.
 #[cycle(walking)]
-fn walk(
-    s: &[u8],
-    notes: &mut Notes,
-    mut st: State,
-    mut depth: usize,
-    mut way: Way,
-) -> Result<State, usize>
-    requires { Asked s.now notes.old st depth way }
-    ensures told { tallied result notes.new ≡ walked s.now way depth (tally_of st notes.old) }
-    ensures kept { IfOk result (λ r. Kept s.now way.level (tally_of r notes.new)) }
+fn walk(s: &[u8], notes: &mut Notes, mut st: u64, mut depth: usize, mut way: Way) -> u64
+    requires { Asked s.now notes.old (state st) depth way }
+    ensures told { tallied (answer result) notes.new ≡ walked s.now way depth (tally_of (state st) notes.old) }
+    ensures kept { IfOk (answer result) (λ r. Kept s.now way.level (tally_of r notes.new)) }
 {
     loop {
-        if s.len() <= st.place() {
-            return Err(s.len());
+        if s.len() <= place(st) {
+            return refusal(s.len());
         }
         if depth == 0 {
-            return Err(st.place());
+            return refusal(place(st));
         }
         depth -= 1;
-        let code = s[st.place()];
+        let code = s[place(st)];
         match code {
             NOT => {
-                st = st.past(NOT);
+                st = past(st, NOT);
                 way.predicate = true;
             }
             SUM | SEQUENCE => {
-                let left = side(s, notes, st.past(SUM), depth, way);
-                let Ok(l) = left else {
+                let left = side(s, notes, past(st, SUM), depth, way);
+                let Ok(l) = opened(left) else {
                     return left;
                 };
                 st = l;
@@ -328,7 +365,7 @@ fn walk(
             // A concurrent part is no predicate.
             BESIDE => {
                 if way.predicate {
-                    return Err(st.place());
+                    return refusal(place(st));
                 }
                 return beside_part(s, notes, st, depth, way);
             }
@@ -340,29 +377,23 @@ fn walk(
 }
 
 // A body that starts at a place and ends where s ends: what stands after it, or its first byte that cannot stand there.
-fn whole(s: &[u8], notes: &mut Notes, start: usize, in_table: bool) -> Result<State, usize>
+fn whole(s: &[u8], notes: &mut Notes, start: usize, in_table: bool) -> Result<u64, usize>
     requires { Asked s.now notes.old (begun start) most_depth (body_way in_table) }
-    ensures { Body s.now in_table start (tally_of (begun start) notes.old) result notes.new }
+    ensures { Body s.now in_table start (tally_of (begun start) notes.old) (states result) notes.new }
 {
-    let before = State {
-        at: start as u16,
-        parts: 0,
-        tests: 0,
-        writes: 0,
-    };
     let way = Way {
         in_table,
         predicate: false,
         level: 0,
     };
-    let part = walk(s, notes, before, MOST_DEPTH, way);
+    let part = opened(walk(s, notes, start as u64, MOST_DEPTH, way));
     let Ok(st) = part else {
         return part;
     };
-    if st.place() == s.len() {
+    if place(st) == s.len() {
         Ok(st)
     } else {
-        Err(st.place())
+        Err(place(st))
     }
 }
 
@@ -385,12 +416,12 @@ fn first_unfit(unfit: Option<usize>, fits: bool, at: usize) -> Option<usize>
 }
 
 // n with the parts of a table's body as often as the table is used.
-fn more_parts(parts: usize, used: Use, st: State) -> usize
-    requires { parts ≤ 68719476736 }
-    ensures value { result ≡ parts + used.count * st.parts }
-    ensures small { result ≤ parts + 4294967296 }
+fn more_parts(before: usize, used: Use, st: u64) -> usize
+    requires { before ≤ 68719476736 }
+    ensures value { result ≡ before + used.count * (state st).parts }
+    ensures small { result ≤ before + 4294967296 }
 {
-    parts + usize::from(used.count) * usize::from(st.parts)
+    before + usize::from(used.count) * parts(st)
 }
 
 // D with a table's body below its deepest use, if there is one.
@@ -415,7 +446,7 @@ fn main_body(book: &[u8], notes: &mut Notes) -> Result<Sums, usize>
     let fits = fit_state(book::reads_of(book, 0), book::writes_of(book, 0), st);
     Ok(Sums {
         at: end,
-        parts: usize::from(st.parts),
+        parts: parts(st),
         deep: usize::from(notes.deep),
         unfit: first_unfit(None, fits, at),
     })

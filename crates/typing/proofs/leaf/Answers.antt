@@ -3,77 +3,64 @@ use native.Mathlib.Omega.{arith}
 use mathlib.Core.Logic.{inl, inr}
 use mathlib.Core.Path.{refl}
 use lib.ListN.{get_or}
-use Rattle.std.specs.Prelude.{Ok}
-use Rattle.rules.proofs.HandingUp.{handed_up}
 use Rattle.rules.proofs.ReadingLaws.{stands_known, stands_unknown}
-use Rattle.typing.proofs.LeafLaws.{leaf_on, leaf_off, leaf_noted, plain_left, plain_noted, field_off, field_on, field_within, field_noted}
+use Rattle.typing.specs.Walking.{state, moved, answer}
+use Rattle.typing.proofs.PackLaws.{is_state}
+use Rattle.typing.proofs.LeafLaws.{leaf_on, leaf_off, leaf_noted, plain_left, plain_noted, field_noted}
 use Rattle.typing.proofs.LeafLaws.{set_stops, set_stands, table_stands, table_stops, unknown_code}
 use Rattle.typing.proofs.leaf.Goals as goal
 use Rattle.typing.proofs.leaf.Goals.{then-way-2-via-then-way-2, then-way-2-via-else-way-2+then-way-3}
 
 pub returns-then-way-clause-read : goal.returns-then-way-clause-read
 returns-then-way-clause-read c =
-    rw c.place-then-way.ensures
-    (leaf_off _ _ c.args.way 3 (rw c.place.ensures at c.in-3.is) c.requires.inside (set_stops _ _ c.if-way.true))
+    rw (c.refusal.ensures, c.place-then-way.ensures)
+    (leaf_off _ (state c.args.st) c.args.way 3 (rw c.place.ensures at c.in-3.is) c.requires.inside (set_stops _ _ c.if-way.true))
 
 pub returns-then-way-2-clause-read : goal.returns-then-way-2-clause-read
 returns-then-way-2-clause-read c =
-    rw c.place-then-way-2.ensures
-    (leaf_off _ _ c.args.way 8 (rw c.place.ensures at c.in-8.is) c.requires.inside
+    rw (c.refusal-then-way-2.ensures, c.place-then-way-2.ensures)
+    (leaf_off _ (state c.args.st) c.args.way 8 (rw c.place.ensures at c.in-8.is) c.requires.inside
     (table_stops _ _ (elim c.then-way-2.branch [
       | then-way-2-via-then-way-2 w ↦ inl w.if-way-2.true
       | then-way-2-via-else-way-2+then-way-3 w ↦ inr w.if-way-3.true
     ])))
 
-pub returns-in_err-bit-in-2-clause-read : goal.returns-in_err-bit-in-2-clause-read
-returns-in_err-bit-in-2-clause-read c =
-    rw (handed_up c.from_residual.ensures.1)
-    (leaf_on _ _ c.args.way 2 (rw c.place.ensures at c.in-2.is) c.requires.inside _
-    (stands_known _ _ 2 (omega arith) (λ e. omega arith)) refl
-    (field_off _ _ 2 (omega arith) (omega arith) _ c.field_bit.ensures _ c.in_err-bit-in-2.was))
-
-pub returns-in_ok-bit-in-2 : goal.returns-in_ok-bit-in-2
-returns-in_ok-bit-in-2 c =
+pub returns-in-2 : goal.returns-in-2
+returns-in-2 c =
     let code = rw c.place.ensures at c.in-2.is in
-    rw (c.past.ensures, c.with_masks.ensures) (record {
+    record {
       read
-          = leaf_on _ _ c.args.way 2 code c.requires.inside _ (stands_known _ _ 2 (omega arith) (λ e. omega arith)) refl
-          (field_on _ _ 2 (omega arith) (omega arith) _ c.field_bit.ensures _ c.in_ok-bit-in-2.was _ _ refl refl);
-      within = field_within _ c.args.st 2 (omega arith) (omega arith) _ c.field_bit.ensures _ c.in_ok-bit-in-2.was;
-      noted = field_noted _ c.args.st _ 2 (Ok c.past.result) _ (omega arith) (omega arith) code;
-    })
+          = leaf_on _ (state c.args.st) c.args.way 2 code c.requires.inside _ (stands_known _ _ 2 (omega arith) (λ e. omega arith)) refl
+          c.field_part.ensures.read;
+      within = c.field_part.ensures.within;
+      noted = field_noted _ (state c.args.st) _ 2 (answer c.field_part.result) _ (omega arith) (omega arith) code;
+    }
 
-pub returns-in_err-bit-in-3-clause-read : goal.returns-in_err-bit-in-3-clause-read
-returns-in_err-bit-in-3-clause-read c =
-    rw (handed_up c.from_residual-in_err-bit-in-3.ensures.1)
-    (leaf_on _ _ c.args.way 3 (rw c.place.ensures at c.in-3.is) c.requires.inside _ (set_stands _ _ c.if-way.false) refl
-    (field_off _ _ 3 (omega arith) (omega arith) _ c.field_bit-in-3.ensures _ c.in_err-bit-in-3.was))
-
-pub returns-in_ok-bit-in-3 : goal.returns-in_ok-bit-in-3
-returns-in_ok-bit-in-3 c =
+pub returns-else-way : goal.returns-else-way
+returns-else-way c =
     let code = rw c.place.ensures at c.in-3.is in
-    rw (c.past-in-3.ensures, c.with_masks-in-3.ensures) (record {
+    record {
       read
-          = leaf_on _ _ c.args.way 3 code c.requires.inside _ (set_stands _ _ c.if-way.false) refl
-          (field_on _ _ 3 (omega arith) (omega arith) _ c.field_bit-in-3.ensures _ c.in_ok-bit-in-3.was _ _ refl refl);
-      within = field_within _ c.args.st 3 (omega arith) (omega arith) _ c.field_bit-in-3.ensures _ c.in_ok-bit-in-3.was;
-      noted = field_noted _ c.args.st _ 3 (Ok c.past-in-3.result) _ (omega arith) (omega arith) code;
-    })
+          = leaf_on _ (state c.args.st) c.args.way 3 code c.requires.inside _ (set_stands _ _ c.if-way.false) refl
+          c.field_part-in-3.ensures.read;
+      within = c.field_part-in-3.ensures.within;
+      noted = field_noted _ (state c.args.st) _ 3 (answer c.field_part-in-3.result) _ (omega arith) (omega arith) code;
+    }
 
 pub returns-in-0-clause-read : goal.returns-in-0-clause-read
 returns-in-0-clause-read c =
-    rw c.past-in-0.ensures
-    (plain_left _ _ c.args.way (get_or c.args.s.now c.place.result 0) (omega arith) (rw c.place.ensures) c.requires.inside)
+    rw (is_state _ (moved 0 (state c.args.st)) c.past.ensures (omega arith))
+    (plain_left _ (state c.args.st) c.args.way (get_or c.args.s.now c.place.result 0) (omega arith) (rw c.place.ensures) c.requires.inside)
 
 pub returns-in-0-clause-noted : goal.returns-in-0-clause-noted
 returns-in-0-clause-noted c =
-    plain_noted _ c.args.st _ (get_or c.args.s.now c.place.result 0) (Ok c.past-in-0.result) _ (omega arith) (rw c.place.ensures)
+    plain_noted _ (state c.args.st) _ (get_or c.args.s.now c.place.result 0) (answer c.past.result) _ (omega arith) (rw c.place.ensures)
 
 pub returns-in-4-to-7-clause-read : goal.returns-in-4-to-7-clause-read
 returns-in-4-to-7-clause-read c =
     let code = get_or c.args.s.now c.place.result 0 in
-    rw c.place-in-4-to-7.ensures
-    (leaf_off _ _ c.args.way code (rw c.place.ensures) c.requires.inside
+    rw (c.refusal-in-4-to-7.ensures, c.place-in-4-to-7.ensures)
+    (leaf_off _ (state c.args.st) c.args.way code (rw c.place.ensures) c.requires.inside
     (stands_unknown _ _ code
     (unknown_code code (rw (← c.place.ensures) at c.requires.leaf) (omega arith) (λ e. omega arith) (λ e. omega arith) (λ e. omega arith))))
 
@@ -82,8 +69,8 @@ returns-else-way-3 c =
     let code = rw c.place.ensures at c.in-8.is in
     record {
       read
-          = leaf_on _ _ c.args.way 8 code c.requires.inside _ (table_stands _ _ c.if-way-2.false c.if-way-3.false) refl
+          = leaf_on _ (state c.args.st) c.args.way 8 code c.requires.inside _ (table_stands _ _ c.if-way-2.false c.if-way-3.false) refl
           c.use_part.ensures.read;
       within = c.use_part.ensures.within;
-      noted = leaf_noted _ c.args.st c.args.way 8 code c.requires.inside _ _ _ c.use_part.ensures.noted;
+      noted = leaf_noted _ (state c.args.st) c.args.way 8 code c.requires.inside _ _ _ c.use_part.ensures.noted;
     }

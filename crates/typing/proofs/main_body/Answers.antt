@@ -1,7 +1,8 @@
 -- `main_body` meets its contract. Assumes nothing.
 use native.Mathlib.Omega.{arith}
 use mathlib.Core.Bool.{false}
-use mathlib.Core.Path.{refl, sym}
+use mathlib.Core.Path.{refl, sym, ap}
+use Rattle.typing.specs.Walking.{state, states}
 use lib.Seq.{length-take-le}
 use Rattle.rules.proofs.HandingUp.{handed_up}
 use Rattle.typing.proofs.TurnLaws.{end_in, entry_asked, main_on, main_off}
@@ -21,10 +22,10 @@ whole-requires c =
 pub returns-in_err-st : goal.returns-in_err-st
 returns-in_err-st c =
     rw (handed_up c.from_residual.ensures.1)
-    (main_off _ c.requires.0 _ _ c.body_start-at.ensures.place c.length_of.ensures.length _ c.requires.1 _ _ c.whole.ensures _ c.in_err-st.was)
+    (main_off _ c.requires.0 _ _ c.body_start-at.ensures.place c.length_of.ensures.length _ c.requires.1 _ _ c.whole.ensures _ (ap states c.in_err-st.was))
 
 pub returns : goal.returns
 returns c =
-    main_on _ c.requires.0 _ _ c.body_start-at.ensures.place c.length_of.ensures.length _ c.requires.1 _ _ c.whole.ensures _ c.in_ok-st.was
-    _ _ _ c.reads_of.ensures c.writes_of.ensures c.fit_state-fits.ensures _ refl c.from.ensures c.from-2.ensures
+    main_on _ c.requires.0 _ _ c.body_start-at.ensures.place c.length_of.ensures.length _ c.requires.1 _ _ c.whole.ensures (state c.in_ok-st.st) (ap states c.in_ok-st.was)
+    _ _ _ c.reads_of.ensures c.writes_of.ensures c.fit_state-fits.ensures _ refl c.parts.ensures c.from.ensures
     c.first_unfit.ensures
