@@ -13,8 +13,7 @@ use lib.ListN.{length, get_or}
 use borrow.Author.Tests.{eqb-true, eqb-false}
 use Rattle.std.specs.Prelude.{Result, Ok, Err}
 use Rattle.rules.specs.declared.Head.{Head}
-use Rattle.rules.specs.declared.Shape.{Shape}
-use Rattle.rules.specs.Codes.{shape_at, operands_of, parts_of}
+use Rattle.rules.specs.Codes.{operands_of, parts_of}
 use Rattle.rules.specs.Masks.{field}
 use Rattle.rules.specs.Parts.{Part, Id, write, size, parts}
 use Rattle.rules.specs.Typing.{tested, written}
@@ -210,9 +209,6 @@ five_six c h l = go (eqb c 5) refl
     go : (t : Bool) → eqb c 5 ≡ t → (c ≡ 5) ⊎ (c ≡ 6)
     go true q = inl (eqb-true c 5 q)
     go false q = inr (omega (arith, eqb-false c 5 q))
-
-pub no_parts : (code : ℕ) (x : Shape) → x ≡ shape_at code → x.parts ≡ 0 → parts_of code ≡ 0
-no_parts code x e h = rw e at h
 
 pub other_codes : (c : ℕ) → (c ≡ 4 → ⊥) → (c ≡ 7 → ⊥) → (c < 5) ⊎ (7 ≤ c) → parts_of c ≡ 0
 other_codes =

@@ -287,10 +287,11 @@ fn side(s: &[u8], notes: &mut Notes, st: u64, depth: usize, way: Way) -> u64
     if depth == 0 {
         return refusal(place(st));
     }
-    if rules::shape_of(s[place(st)]).parts != 0 {
-        return walk(s, notes, st, depth, way);
+    let code = s[place(st)];
+    match code {
+        NOT..=BESIDE => walk(s, notes, st, depth, way),
+        _ => leaf(s, notes, st, way),
     }
-    leaf(s, notes, st, way)
 }
 
 // The first fault after the sides of a concurrent part at a place: its own comes before theirs, and after those before it.

@@ -5,12 +5,13 @@ use mathlib.Core.Logic.{inl, inr}
 use lib.ListN.{get_or}
 use Rattle.typing.specs.Walking.{state, moved, bare}
 use Rattle.typing.proofs.PackLaws.{opened_off, opened_on, asked_from, told_from}
-use Rattle.typing.proofs.LeafLaws.{read_within, beside_stops, five_six, no_parts, other_codes}
+use Rattle.typing.proofs.LeafLaws.{read_within, beside_stops, five_six, other_codes}
 use Rattle.typing.proofs.WalkLaws.{walk_short, walk_deep}
 use Rattle.typing.proofs.CycleLaws.{leaf_is_told, leaf_is_kept, round_short, round_deep, round_stop, round_told, kept_as, round_not}
 use Rattle.typing.proofs.CycleLaws.{round_off, round_on}
 use Rattle.typing.proofs.BesideLaws.{beside_refused, first_asked, first_off, second_off, both_told, both_kept, joined_is}
 use Rattle.typing.proofs.+walking.Goals as goal
+use Rattle.typing.proofs.+walking.Goals.{side-in_default-via-then-code-lt4, side-in_default-via-else-code-lt4+else-code-lt8}
 use Rattle.typing.proofs.+walking.Goals.{walk-in_default-via-then-code-lt4, walk-in_default-via-else-code-lt4+else-code-lt7}
 
 pub beside_part-refusal-requires : goal.beside_part-refusal-requires
@@ -79,9 +80,14 @@ side-returns-then-depth-eq0-clause-told t c =
     rw (c.refusal-then-depth-eq0.ensures, c.place-then-depth-eq0.ensures)
     (sym (walk_deep _ c.args.way _ _ (omega arith) c.if-depth-eq0.true))
 
-pub side-returns : goal.side-returns
-side-returns t c =
-    let none = no_parts _ _ (rw c.place-2.ensures at c.shape_of.ensures) c.if-shape_of-ne0.false in
+pub side-returns-in_default : goal.side-returns-in_default
+side-returns-in_default t c =
+    let code = get_or c.args.s.now c.place-2.result 0 in
+    let none = rw c.place-2.ensures at (other_codes code (λ e. omega arith) (λ e. omega arith)
+    (elim c.in_default.branch [
+      | side-in_default-via-then-code-lt4 w ↦ inl (omega arith)
+      | side-in_default-via-else-code-lt4+else-code-lt8 w ↦ inr (omega arith)
+    ])) in
     let l = c.leaf.ensures in
     record {
       told = leaf_is_told _ _ (state c.args.st) _ _ c.requires.kept (omega arith) none _ c.if-depth-eq0.false _ l.read l.noted;
