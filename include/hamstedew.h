@@ -21,8 +21,8 @@
  *   take them to be apart, and nothing is said of what a call does where they are not. Buffers that are only read may be the same.
  * - Memory. No function keeps a pointer, has state, or asks for memory; calls in several threads do not disturb each other as long as
  *   none writes a buffer that another uses.
- * - Stack. Measured by bench/stack on books that nest as deep as the rules allow: accept takes up to 6.2 KiB, evaluate 95 KiB, run
- *   103 KiB. A thread with a stack of 160 KiB has enough for any of them; how much is left is not looked at.
+ * - Stack. Measured by bench/stack on books that nest as deep as the rules allow: accept takes up to 3.8 KiB, evaluate 61 KiB, run
+ *   69 KiB. A thread with a stack of 160 KiB has enough for any of them; how much is left is not looked at.
  * - Time. accept takes time in proportion to the book. evaluate does not: N, its number of steps, is up to 4 n 16^D, and a book of
  *   1,155 bytes makes one packet cost 62,748,530 steps on up to 16 packets each, which takes seconds (docs/SPEED.md). run asks evaluate
  *   first, so that it takes as long, also where it then turns the call away. Nothing ends a call early. Who takes books from strangers

@@ -16,7 +16,7 @@
 //! # Ok::<(), hamstedew::Refusal>(())
 //! ```
 //!
-//! A call asks for no memory, except [`packets`], and keeps nothing. It takes stack, up to about 103 KiB, and an accepted
+//! A call asks for no memory, except [`packets`], and keeps nothing. It takes stack, up to about 69 KiB, and an accepted
 //! book can make one packet cost seconds: `docs/SPEED.md` has both.
 
 mod faces;
