@@ -137,16 +137,27 @@ insert_member p (x ∷ s) h (inl e) = rw (e, order_refl x)
 insert_member p (x ∷ s) h (inr m) =
     rw (order_turned x p Less (after_out x p s h.0 m)) (ap (λ (r : Packets). x ∷ r) (insert_member p s h.1 m))
 
--- and has one more, if it has not
-insert_more : (p : Packet) (s : Packets) → (p ∈ s → ⊥) → length (insert p s) ≡ suc (length s)
+-- and has it among the others, one more, if it has not
+insert_more : (p : Packet) (s : Packets) → (p ∈ s → ⊥) → (i : ℕ) × (insert p s ≡ take i s ++ p ∷ drop i s)
 unfolding insert
-insert_more p [] n = refl
+insert_more p [] n = (0, refl)
 insert_more p (x ∷ s) n = go (order_of p x) refl (insert_more p s (λ m. n (inr m)))
   where
-    go : (o : Ordering) → order_of p x ≡ o → length (insert p s) ≡ suc (length s) → length (put_by o p x s (insert p s)) ≡ suc (suc (length s))
-    go Less e k = refl
+    go : (o : Ordering) → order_of p x ≡ o → (i : ℕ) × (insert p s ≡ take i s ++ p ∷ drop i s)
+        → (i : ℕ) × (put_by o p x s (insert p s) ≡ take i (x ∷ s) ++ p ∷ drop i (x ∷ s))
+    go Less e k = (0, refl)
     go Equal e k = absurd (n (inl (order_same p x e)))
-    go Greater e k = ap suc k
+    go Greater e k = (suc k.0, ap (λ (r : Packets). x ∷ r) k.1)
+
+-- one too many
+pub inserted_not : (r : ℕ) (w₀ : List ℕ) (p : Packet) (i k : ℕ) → k ≡ 16
+    → insert p (take k (rows_of r w₀)) ≡ take i (take k (rows_of r w₀)) ++ p ∷ drop i (take k (rows_of r w₀)) → Inserted r w₀ w₀ k p None
+inserted_not r w₀ p i k h e =
+    let s = take k (rows_of r w₀) in
+    let n : length (take i s) + length (drop i s) ≡ length s =
+    sym (length-append (take i s) (drop i s)) ∙ ap length (take-append-drop i s) in
+    let m : length (insert p s) ≡ length (take i s) + suc (length (drop i s)) = ap length e ∙ length-append (take i s) (p ∷ drop i s) in
+    (omega (arith, length_packets r w₀ k (omega arith)), refl)
 
 -- no room: it is there, or is one too many
 pub inserted_full : {r : ℕ} {w₀ : List ℕ} (p : Packet) (k : ℕ) (b : Bool) → k ≡ 16 → Array r w₀ → Ascending (take k (rows_of r w₀))
@@ -154,7 +165,7 @@ pub inserted_full : {r : ℕ} {w₀ : List ℕ} (p : Packet) (k : ℕ) (b : Bool
 inserted_full {r} {w₀} p k true h a q e = inserted_there p k (omega arith) a (insert_member p _ q (member_out p _ (sym e)))
 inserted_full {r} {w₀} p k false h a q e =
     let n = insert_more p (take k (rows_of r w₀)) (λ m. false≢true (e ∙ member_in p _ m)) in
-    (omega (arith, n, length_packets r w₀ k (omega arith)), refl)
+    inserted_not r w₀ p n.0 k h n.1
 
 -- where fewer than 16 are, there is room
 pub inserted_some : (r : ℕ) (w w₀ : List ℕ) (k : ℕ) (p : Packet) (o : Option ℕ) → k < 16 → Inserted r w w₀ k p o → IsSome o
