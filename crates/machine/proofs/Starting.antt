@@ -130,7 +130,7 @@ module _ (s packet v₁ v₂ : List ℕ) (st : Runnable s (body_start s 0)) (pl 
     }
 
     pub started : (u : List ℕ) (k : ℕ) → Listed v₃ u 1 0 (numbers (news_at v₃ nobody (option_ready r)))
-        → k ≡ 1 - 1 + length (numbers (news_at v₃ nobody (option_ready r))) → length u ≡ area_words → Holds s u m k (start s packet)
+        → k ≡ 1 - 1 + length (numbers (news_at v₃ nobody (option_ready r))) → area_words ≤ length u → Holds s u m k (start s packet)
     unfolding part start times
     started u k N ek long =
         let d : drop 1 (take 1 (drop ready_from v₃)) ≡ [] =
@@ -145,5 +145,5 @@ module _ (s packet v₁ v₂ : List ℕ) (st : Runnable s (body_start s 0)) (pl 
           size = omega (arith, M.size);
           ready = rw ek (N.here ∙ rw d (append-nil (numbers (news_at v₃ nobody (option_ready r))) ∙ news_are));
           few = omega (arith, few);
-          area = omega (arith, long);
+          area = long;
         }
